@@ -1,3 +1,6 @@
+//! The list type of public types and calls. Contracts see it as the list of its members, where they would see a `Vec`
+//! as a record; hot loops go over slices of it.
+
 ghost use Rattle.std.specs.Prelude.{◌≡◌, ◌↔◌, ◌≤◌, IsTrue, List, [], ◌∷◌, ◌++◌, length, drop, slice_get, IfOk, OnOk, OnErr};
 ghost use Rattle.std.specs.Option.{option_copied};
 

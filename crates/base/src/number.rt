@@ -1,3 +1,6 @@
+//! Decimal numbers of scripts and reports. Each number has one text: no needless zero in front, no plus and no `-0`, so
+//! that a text that is read and written again is the same.
+
 ghost use Rattle.std.specs.Prelude.{◌≡◌, ◌++◌, ◌^◌, ◌<◌, ◌≤◌, ◌≢◌, ◌↔◌, ◌==◌, ℕ, ℤ, true, not, IsTrue, IfOk, IfSome, OnOk, OnErr, Ok, Err};
 ghost use Rattle.std.specs.Int.{w64};
 ghost use Rattle.std.specs.Int.RustNames.{FitsSigned};

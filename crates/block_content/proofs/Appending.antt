@@ -1,6 +1,6 @@
 -- Samples of a chunk that are read behind others, and between which times they lie.
 use Rattle.std.proofs.Common.{◌≡◌, ℕ, suc, ◌-◌, List, [], ◌∷◌, ◌++◌, length, drop, Bool, true, false, ◌&&◌, Option, None, Some, Result, Ok, Err, ℤ, ◌≤ℤ◌, refl, sym, ap, subst, ◌∙◌, arith, ◌⊎◌, inl, inr}
-use Rattle.std.specs.Prelude.{slice_get, ◌<ℤ◌, IsErrAnd}
+use Rattle.std.specs.Prelude.{slice_get, ◌<ℤ◌, int_le, int_lt, IsErrAnd}
 use Rattle.std.specs.List.{AllByRecursion}
 use Rattle.std.proofs.lemmas.Bool.{and_parts}
 use Rattle.std.proofs.lemmas.Int.{ints}
@@ -14,19 +14,21 @@ use Rattle.xor_chunks.specs.declared.refusal.XorRefusal.{XorRefusal}
 use Rattle.xor_chunks.specs.declared.refusal.XorRefusal.TheVariants as xor
 use Rattle.xor_chunks.specs.State.{State}
 use Rattle.xor_chunks.specs.Data.{data_at, with_samples}
-use Rattle.xor_chunks.specs.Spans.{end_of}
+use Rattle.xor_chunks.specs.Spans.{end_of, span_of}
+use Rattle.xor_chunks.specs.declared.spanning.SampleSpan.{SampleSpan}
 use Rattle.xor_chunks.specs.Grammar.{AreOthers, IsText, Follows}
 use Rattle.chunk_files.specs.declared.refusal.ChunkRefusal.{ChunkRefusal}
 use Rattle.block_content.specs.Content.{HaveTimesOf}
 use Rattle.base.specs.Firsts.{first_at}
-use Rattle.block_content.specs.ContentReading.{data_of, part_at, samples_at, chunk_at, outside_of, first_time, lies_within, LieBetween}
+use Rattle.block_content.specs.ContentReading.{data_of, part_at, samples_at, chunk_at, outside_of, first_time, LieBetween}
+use Rattle.block_content.specs.StoredPlaces.{lies_within}
 use Rattle.block_content.specs.declared.chunk_cause.ChunkCause.{ChunkCause}
 use Rattle.block_content.specs.declared.chunk_cause.ChunkCause.TheVariants.{File, Data, NoSamples, TimesDiffer}
 use Rattle.base.proofs.FirstLaws.{some_is}
 use Rattle.std.proofs.Math.Seq.{drop-append_seam}
 use Rattle.std.proofs.lemmas.Float.{T_from_true}
 use Rattle.base.specs.Firsts.{or_else}
-use Rattle.block_content.proofs.Counting.{time_cons}
+use Rattle.block_content.proofs.CountsSoFar.{no_time, time_cons}
 use Rattle.block_content.proofs.ChunksRead.{times_found}
 use Rattle.base.proofs.Integers.{le_le}
 use Rattle.base.proofs.Bools.{true-from_T}
@@ -64,12 +66,12 @@ Between low high s = (low ≤ℤ s.time) × (s.time ≤ℤ high)
 
 -- ---- the tests of a part
 
-part_fails : (some same : Bool) (part : List Sample) (cause : ChunkCause) → (unless some NoSamples >> unless same TimesDiffer) ≡ Err cause → (unless some NoSamples >> (unless same TimesDiffer >> Ok part)) ≡ Err cause
+pub part_fails : (some same : Bool) (part : List Sample) (cause : ChunkCause) → (unless some NoSamples >> unless same TimesDiffer) ≡ Err cause → (unless some NoSamples >> (unless same TimesDiffer >> Ok part)) ≡ Err cause
 part_fails false same part cause e = ap (λ (c : ChunkCause). Err c) (let e' : NoSamples ≡ cause = cc in e')
 part_fails true false part cause e = ap (λ (c : ChunkCause). Err c) (let e' : TimesDiffer ≡ cause = cc in e')
 part_fails true true part cause e = absurd cc
 
-part_passes : (some same : Bool) (part : List Sample) → (unless some NoSamples >> unless same TimesDiffer) ≡ Ok tt → ((unless some NoSamples >> (unless same TimesDiffer >> Ok part)) ≡ Ok part) × (same ≡ true)
+pub part_passes : (some same : Bool) (part : List Sample) → (unless some NoSamples >> unless same TimesDiffer) ≡ Ok tt → ((unless some NoSamples >> (unless same TimesDiffer >> Ok part)) ≡ Ok part) × (same ≡ true)
 part_passes false same part e = absurd cc
 part_passes true false part e = absurd cc
 part_passes true true part e = (refl, refl)
@@ -165,32 +167,32 @@ text_between place content (s ∷ ss) is timed =
     let last : end_of s.time ss ≡ place.max = some_is (end_of s.time ss) place.max (sym (last_time s ss) ∙ ap (slice_get (times_of (s ∷ ss))) (sym count) ∙ timed.ends) in
     subst (λ (h : ℤ). AllByRecursion (Between place.min h) (s ∷ ss)) last (subst (λ (l : ℤ). AllByRecursion (Between l (end_of s.time ss)) (s ∷ ss)) first (text_rises content s ss is))
 
--- ---- a place within the block's times
+-- ---- a span within the block's times
 
-between_within : (meta : Meta) (place : ChunkPlace) (s : Sample) → lies_within meta place ≡ true → Between place.min place.max s → is_within meta.min_time meta.max_time s ≡ true
-between_within meta place s lies is =
+between_within : (meta : Meta) (low high : ℤ) (s : Sample) → (int_le meta.min_time low && int_lt high meta.max_time) ≡ true → Between low high s → is_within meta.min_time meta.max_time s ≡ true
+between_within meta low high s lies is =
     let p = and_parts _ _ lies in
-    let low : meta.min_time ≤ℤ place.min = record { le = T_from_true _ p.0 } in
-    let high : place.max <ℤ meta.max_time = record { lt = T_from_true _ p.1 } in
-    let from : meta.min_time ≤ℤ s.time = le_le meta.min_time place.min s.time low is.0 in
-    let to : s.time <ℤ meta.max_time = let q = is.1 in omega (arith, ints, q, high) in
+    let begins : meta.min_time ≤ℤ low = record { le = T_from_true _ p.0 } in
+    let ends : high <ℤ meta.max_time = record { lt = T_from_true _ p.1 } in
+    let from : meta.min_time ≤ℤ s.time = le_le meta.min_time low s.time begins is.0 in
+    let to : s.time <ℤ meta.max_time = let q = is.1 in omega (arith, ints, q, ends) in
     let both : (a b : Bool) → a ≡ true → b ≡ true → (a && b) ≡ true = λ a b e f. rw (e, f) refl in
     both _ _ (true-from_T _ from.le) (true-from_T _ to.lt)
 
-pub none_outside : (meta : Meta) (place : ChunkPlace) (samples : List Sample) → lies_within meta place ≡ true → LieBetween place samples → first_time meta samples ≡ None
+none_between : (meta : Meta) (low high : ℤ) (samples : List Sample) → (int_le meta.min_time low && int_lt high meta.max_time) ≡ true → AllByRecursion (Between low high) samples → first_time meta samples ≡ None
 unfolding first_at
-none_outside meta place [] lies all = refl
-none_outside meta place (s ∷ ss) lies all =
-    let one : outside_of meta s ≡ None = let w = between_within meta place s lies all.0 in rw w refl in
-    let others = none_outside meta place ss lies all.1 in
+none_between meta low high [] lies all = refl
+none_between meta low high (s ∷ ss) lies all =
+    let one : outside_of meta s ≡ None = let w = between_within meta low high s lies all.0 in rw w refl in
+    let others = none_between meta low high ss lies all.1 in
     time_cons meta s ss ∙ ap (λ (o : Option ℤ). or_else o (first_time meta ss)) one ∙ others
 
--- ---- reading a text and its times
+-- none of the samples is outside where there is none, or where their span is within
+pub none_outside : (meta : Meta) (content : List ℕ) (samples : List Sample) (span : Option SampleSpan) → IsText 8 content samples → span ≡ span_of samples → ((one : SampleSpan) → span ≡ Some one → lies_within meta one ≡ true) → first_time meta samples ≡ None
+none_outside meta content [] span is told lies = no_time meta
+none_outside meta content (s ∷ ss) span is told lies = none_between meta s.time (end_of s.time ss) (s ∷ ss) (lies (record { count = suc (length ss); first = s.time; last = end_of s.time ss }) told) (text_rises content s ss is)
 
-pub between_of : (place : ChunkPlace) (content : List ℕ) (front all part : List Sample) (told : (read : List Sample) × IsText 8 content read × (all ≡ front ++ read)) → all ≡ front ++ part → HaveTimesOf place part → (x : List Sample) × (all ≡ front ++ x) × LieBetween place x
-between_of place content front all part told is timed =
-    let same : told.0 ≡ part = sym (drop-append_seam front told.0) ∙ ap (drop (length front)) (sym told.2 ∙ is) ∙ drop-append_seam front part in
-    (part, is, text_between place content part (subst (IsText 8 content) same told.1) timed)
+-- ---- one reading in place of another
 
 pub moved_either : (front : List Sample) (read more : Result (List Sample) ChunkCause) (e : ChunkCause) → read ≡ more → (e ≡ Data xor.NoMemory) ⊎ (with_samples front read ≡ Err e) → (e ≡ Data xor.NoMemory) ⊎ (with_samples front more ≡ Err e)
 moved_either front read more e same (inl none) = inl none

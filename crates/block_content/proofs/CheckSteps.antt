@@ -2,9 +2,10 @@
 use Rattle.std.proofs.lemmas.Bool.{true≢false}
 use Rattle.std.proofs.lemmas.Bool.Decides.{Decides-eqb}
 use Rattle.std.proofs.Common.{◌≡◌, ℕ, suc, arith, List, [], ◌∷◌, length, Bool, true, false, Option, None, Some, Result, Ok, Err, ℤ, refl, sym, ap, subst, ◌∙◌, ◌⊎◌, inl, inr}
+use Rattle.base.specs.Reading.{◌>>=◌, ◌>>◌, unless}
 use Rattle.base.proofs.Binds.{err_is}
 use Rattle.base.proofs.FirstLaws.{each_many}
-use Rattle.block_content.proofs.Counting.{length-list_of}
+use Rattle.block_content.proofs.CountsSoFar.{length-list_of}
 use Rattle.label_sets.specs.declared.series.Series.{Series}
 use Rattle.index_parts.specs.declared.index_series.IndexSeries.{IndexSeries}
 use Rattle.block_meta.specs.declared.meta.Meta.{Meta}
@@ -14,10 +15,12 @@ use Rattle.base.specs.Firsts.{each_at, first_at}
 use Rattle.block_content.specs.ContentReading.{chunks_at, list_of, first_outside, repeated_in, fitted, chunked_at}
 use Rattle.block_content.proofs.ChunkWalks.{SeriesStopped}
 use Rattle.block_content.proofs.ContentSteps.{chunks_refused, times_refused, order_refused, all_read}
+use Rattle.block_content.specs.Named.{names_few}
+use Rattle.block_content.specs.ReadBytes.{reads_few}
 use Rattle.block_content.specs.CheckReading.{has_series, some_at, found_at, IsFirstFound, HaveCounts}
 use Rattle.label_sets.specs.declared.sample.Sample.{Sample}
 use Rattle.block_content.specs.declared.check_refusal.CheckRefusal.{CheckRefusal}
-use Rattle.block_content.specs.declared.check_refusal.CheckRefusal.TheVariants.{EmptyBlock, OutsideRange, Repeated, NoMemory}
+use Rattle.block_content.specs.declared.check_refusal.CheckRefusal.TheVariants.{EmptyBlock, OutsideRange, Repeated, NamesTooMuch, NoMemory}
 
 has_some : (indexed : List IndexSeries) → (indexed ≡ [] → ⊥) → has_series indexed ≡ true
 has_some [] some = absurd (some refl)
@@ -39,32 +42,49 @@ module _ (meta : Meta) (segments : List (List ℕ)) (indexed : List IndexSeries)
   passed_by None (Some series) none order h = absurd cc
   passed_by None None none none' h = all_read meta segments indexed parts all_parts none none'
 
-module _ (meta : Meta) (segments : List (List ℕ)) (indexed : List IndexSeries) where
-  pub empty_stopped : indexed ≡ [] → some_at meta segments indexed ≡ Err EmptyBlock
+-- what follows on the content: the test that it names little
+abbrev pub few_then : List ℕ → List (List ℕ) → List IndexSeries → List Series → Result (List Series) CheckRefusal
+few_then index segments indexed list = unless (names_few index segments indexed) NamesTooMuch >> Ok list
+
+module _ (meta : Meta) (index : List ℕ) (segments : List (List ℕ)) (indexed : List IndexSeries) where
+  pub empty_stopped : indexed ≡ [] → some_at meta index segments indexed ≡ Err EmptyBlock
   unfolding some_at
   empty_stopped none = let empty : has_series indexed ≡ false = ap has_series none in rw empty refl
 
-  chunks_follow : (indexed ≡ [] → ⊥) → some_at meta segments indexed ≡ chunked_at meta segments indexed
+  pub read_much : (indexed ≡ [] → ⊥) → reads_few segments indexed ≡ false → some_at meta index segments indexed ≡ Err NamesTooMuch
   unfolding some_at
-  chunks_follow some = rw (has_some indexed some) refl
+  read_much some much = rw (has_some indexed some, much) refl
 
-  chunks_stopped : (e : CheckRefusal) → (indexed ≡ [] → ⊥) → (e ≡ NoMemory) ⊎ (chunked_at meta segments indexed ≡ Err e) → (e ≡ NoMemory) ⊎ (some_at meta segments indexed ≡ Err e)
-  chunks_stopped e some (inl none) = inl none
-  chunks_stopped e some (inr h) = inr (chunks_follow some ∙ h)
+  chunks_follow : (indexed ≡ [] → ⊥) → reads_few segments indexed ≡ true → some_at meta index segments indexed ≡ (chunked_at meta segments indexed >>= few_then index segments indexed)
+  unfolding some_at
+  chunks_follow some few = rw (has_some indexed some, few) refl
 
-  pub counts_refused : (indexed ≡ [] → ⊥) → (e : CheckRefusal) → SeriesStopped segments indexed e → (e ≡ NoMemory) ⊎ (some_at meta segments indexed ≡ Err e)
-  counts_refused some e stopped = chunks_stopped e some (chunks_refused meta segments indexed e stopped)
+  behind_chunks : (indexed ≡ [] → ⊥) → reads_few segments indexed ≡ true → (r : Result (List Series) CheckRefusal) → chunked_at meta segments indexed ≡ r → some_at meta index segments indexed ≡ (r >>= few_then index segments indexed)
+  behind_chunks some few r e = chunks_follow some few ∙ ap (λ (read : Result (List Series) CheckRefusal). read >>= few_then index segments indexed) e
 
-  module _ (some : indexed ≡ [] → ⊥) (samples : ℕ) (outside : Option (ℕ × ℤ)) (repeated : Option ℕ)
+  chunks_stopped : (e : CheckRefusal) → (indexed ≡ [] → ⊥) → reads_few segments indexed ≡ true → (e ≡ NoMemory) ⊎ (chunked_at meta segments indexed ≡ Err e) → (e ≡ NoMemory) ⊎ (some_at meta index segments indexed ≡ Err e)
+  chunks_stopped e some few (inl none) = inl none
+  chunks_stopped e some few (inr h) = inr (behind_chunks some few (Err e) h)
+
+  pub counts_refused : (indexed ≡ [] → ⊥) → reads_few segments indexed ≡ true → (e : CheckRefusal) → SeriesStopped segments indexed e → (e ≡ NoMemory) ⊎ (some_at meta index segments indexed ≡ Err e)
+  counts_refused some few e stopped = chunks_stopped e some few (chunks_refused meta segments indexed e stopped)
+
+  module _ (some : indexed ≡ [] → ⊥) (reads : reads_few segments indexed ≡ true) (samples : ℕ) (outside : Option (ℕ × ℤ)) (repeated : Option ℕ)
       (counted : (parts : List (List (List Sample))) × (each_at (chunks_at segments) indexed ≡ Ok parts) × ((samples ≡ sample_count (list_of indexed parts)) × IsFirstFound (first_at (first_outside meta) (list_of indexed parts)) outside))
       (order : MatchOption repeated (first_at repeated_in indexed ≡ None) (λ found. (place : ℕ) × (first_at repeated_in indexed ≡ Some (place, tt)) × (found ≡ fitted place))) where
-    pub found_refused : (e : CheckRefusal) → found_at outside repeated ≡ Err e → some_at meta segments indexed ≡ Err e
-    found_refused e h = chunks_follow some ∙ refused_by meta segments indexed counted.0 counted.1 outside repeated counted.2.1 order e h
+    pub found_refused : (e : CheckRefusal) → found_at outside repeated ≡ Err e → some_at meta index segments indexed ≡ Err e
+    found_refused e h = behind_chunks some reads (Err e) (refused_by meta segments indexed counted.0 counted.1 outside repeated counted.2.1 order e h)
 
-    pub found_passed : (series : ℕ) → found_at outside repeated ≡ Ok tt → series ≡ length indexed → HaveCounts (some_at meta segments indexed) (series, samples)
-    found_passed series h many = (
+    all_found : found_at outside repeated ≡ Ok tt → some_at meta index segments indexed ≡ few_then index segments indexed (list_of indexed counted.0)
+    all_found h = behind_chunks some reads (Ok (list_of indexed counted.0)) (passed_by meta segments indexed counted.0 counted.1 outside repeated counted.2.1 order h)
+
+    pub found_much : found_at outside repeated ≡ Ok tt → names_few index segments indexed ≡ false → some_at meta index segments indexed ≡ Err NamesTooMuch
+    found_much h much = all_found h ∙ ap (λ (b : Bool). unless b NamesTooMuch >> Ok (list_of indexed counted.0)) much
+
+    pub found_passed : (series : ℕ) → found_at outside repeated ≡ Ok tt → names_few index segments indexed ≡ true → series ≡ length indexed → HaveCounts (some_at meta index segments indexed) (series, samples)
+    found_passed series h few many = (
       list_of indexed counted.0,
-      chunks_follow some ∙ passed_by meta segments indexed counted.0 counted.1 outside repeated counted.2.1 order h,
+      all_found h ∙ ap (λ (b : Bool). unless b NamesTooMuch >> Ok (list_of indexed counted.0)) few,
       many ∙ sym (length-list_of indexed counted.0 (each_many (chunks_at segments) indexed counted.0 counted.1)),
       counted.2.0,
     )

@@ -1,19 +1,20 @@
--- Walks over chunks and over series: what was read of the front, what is spent, and the first refusal.
-use Rattle.std.proofs.Common.{◌≡◌, ℕ, ◌+◌, ◌-◌, ◌*◌, ◌^◌, ◌<◌, ◌≤◌, min, List, [], ◌∷◌, ◌++◌, length, take, drop, map, get_or, sum_by, Result, Ok, Err, refl, sym, ap, subst, ◌∙◌, arith, ◌⊎◌, inl, inr}
+-- Walks over chunks and over series: what was read of the front, and the first refusal.
+use Rattle.std.proofs.Common.{◌≡◌, ℕ, ◌+◌, ◌-◌, ◌*◌, ◌^◌, ◌<◌, ◌≤◌, min, List, [], ◌∷◌, ◌++◌, length, take, drop, get_or, sum_by, Result, Ok, Err, refl, sym, ap, ap₂, subst, ◌∙◌, arith, ◌⊎◌, inl, inr}
 use Rattle.std.specs.Prelude.{IsErrAnd}
-use Rattle.std.specs.List.{AllByRecursion, AllZip}
-use Rattle.std.proofs.lemmas.List.{take_more, drop_more, length-append, length-take-le, take-append-drop}
+use Rattle.std.specs.List.{AllByRecursion}
+use Rattle.std.proofs.lemmas.List.{take_all, take_more, drop_more, length-append, length-take-le, take-append-drop}
 use Rattle.base.proofs.Lists.{sum_by-push, joined-push}
 use Rattle.base.proofs.Pairs.{AllZip-push}
 use Rattle.base.specs.Lists.{joined}
 use Rattle.base.specs.Grammar.{IsBytes}
+use Rattle.label_sets.specs.declared.label.Label.{Label}
 use Rattle.label_sets.specs.declared.sample.Sample.{Sample}
 use Rattle.label_sets.specs.declared.series.Series.{Series}
 use Rattle.index_parts.specs.declared.chunk_place.ChunkPlace.{ChunkPlace}
 use Rattle.block_meta.proofs.Blocks.{front_more}
 use Rattle.index_parts.specs.declared.index_series.IndexSeries.{IndexSeries}
 use Rattle.base.specs.Firsts.{each_at}
-use Rattle.block_content.specs.ContentReading.{chunk_at, chunk_bytes, chunks_at, series_bytes, series_of, list_of, fitted, refused_cause, refused_chunk, WalksSeries}
+use Rattle.block_content.specs.ContentReading.{chunk_at, chunk_bytes, chunks_at, series_bytes, series_of, list_of, fitted, refused_cause, refused_chunk, AreFew, WalksSeries}
 use Rattle.xor_chunks.specs.declared.refusal.XorRefusal.TheVariants as xor
 use Rattle.block_content.specs.declared.chunk_cause.ChunkCause.{ChunkCause}
 use Rattle.block_content.specs.declared.chunk_cause.ChunkCause.TheVariants.{Data}
@@ -36,70 +37,66 @@ taken xs i lt = length-take-le i xs (omega arith)
 pub fitted_more : (place n more : ℕ) → n ≡ fitted place → more ≡ min (n + 1) (2 ^ 32 - 1) → more ≡ fitted (place + 1)
 fitted_more place n more e e' = omega (arith, e, e')
 
+-- ---- sums that are counted up to the greatest number
+
+pub sum_more : {A : Type 0} (f : A → ℕ) (xs : List A) (i : ℕ) (x d : A) (sum more n : ℕ) → sum ≡ min (sum_by f (take i xs)) (2 ^ 64 - 1) → i < length xs → x ≡ get_or xs i d → more ≡ min (sum + n) (2 ^ 64 - 1) → min n (2 ^ 64 - 1) ≡ min (f x) (2 ^ 64 - 1) → more ≡ min (sum_by f (take (i + 1) xs)) (2 ^ 64 - 1)
+sum_more f xs i x d sum more n far lt at added is = omega (arith, far, added, is, sum_by-push f (take i xs) x, ap (sum_by f) (front xs i x d lt at))
+
+pub sum_end : {A : Type 0} (f : A → ℕ) (xs : List A) (i sum : ℕ) → sum ≡ min (sum_by f (take i xs)) (2 ^ 64 - 1) → length xs ≤ i → sum ≡ min (sum_by f xs) (2 ^ 64 - 1)
+sum_end {A} f xs i sum far le = far ∙ ap (λ (ys : List A). min (sum_by f ys) (2 ^ 64 - 1)) (take_all i xs le)
+
 -- ---- the bytes of segments
 
-pub record BytesSoFar (segments : List (List ℕ)) (i bytes : ℕ) : Type 0 where
-  pub few : bytes ≤ sum_by length (take i segments)
-  pub are : AllByRecursion IsBytes (take i segments)
-
-pub bytes_step : (segments : List (List ℕ)) (i bytes more : ℕ) (segment d lent : List ℕ) → BytesSoFar segments i bytes → i < length segments → segment ≡ get_or segments i d → more ≤ bytes + length lent → lent ≡ segment → IsBytes lent → BytesSoFar segments (i + 1) more
-bytes_step segments i bytes more segment d lent far lt at le is are =
-    let up = front segments i segment d lt at in
-    record {
-      few = let f = far.few in omega (arith, f, le, ap length is, sum_by-push length (take i segments) segment, ap (sum_by length) up);
-      are = front_more IsBytes segments i segment d far.are lt at (subst IsBytes is are);
-    }
+pub bytes_step : (segments : List (List ℕ)) (i : ℕ) (segment d lent : List ℕ) → AllByRecursion IsBytes (take i segments) → i < length segments → segment ≡ get_or segments i d → lent ≡ segment → IsBytes lent → AllByRecursion IsBytes (take (i + 1) segments)
+bytes_step segments i segment d lent far lt at is are = front_more IsBytes segments i segment d far lt at (subst IsBytes is are)
 
 -- ---- the chunks of a series
 
-pub record ChunksSoFar (segments : List (List ℕ)) (chunks : List ChunkPlace) (i : ℕ) (samples : List Sample) (left budget chunk : ℕ) : Type 0 where
+pub record ChunksSoFar (segments : List (List ℕ)) (chunks : List ChunkPlace) (i : ℕ) (samples : List Sample) (chunk : ℕ) : Type 0 where
   pub parts : List (List Sample)
   pub read : each_at (chunk_at segments) (take i chunks) ≡ Ok parts
   pub joined_are : samples ≡ joined parts
-  pub spent : left + sum_by (chunk_bytes segments) (take i chunks) ≡ budget
   pub few : length samples ≤ 8 * sum_by (chunk_bytes segments) (take i chunks)
   pub number : chunk ≡ fitted i
 
 module _ (segments : List (List ℕ)) (chunks : List ChunkPlace) where
-  pub chunks_start : (samples : List Sample) (budget : ℕ) → samples ≡ [] → ChunksSoFar segments chunks 0 samples budget budget 0
+  pub chunks_start : (samples : List Sample) → samples ≡ [] → ChunksSoFar segments chunks 0 samples 0
   unfolding each_at
-  chunks_start samples budget none = record { parts = []; read = refl; joined_are = none; spent = omega arith; few = omega (arith, ap length none); number = refl }
+  chunks_start samples none = record { parts = []; read = refl; joined_are = none; few = omega (arith, ap length none); number = refl }
 
-  pub chunks_step : (i : ℕ) (place d : ChunkPlace) (samples more part : List Sample) (left rest budget chunk next : ℕ) → ChunksSoFar segments chunks i samples left budget chunk → i < length chunks → place ≡ get_or chunks i d
-      → chunk_at segments place ≡ Ok part → more ≡ samples ++ part → rest + chunk_bytes segments place ≡ left → length part ≤ 8 * chunk_bytes segments place → next ≡ min (chunk + 1) (2 ^ 32 - 1) → ChunksSoFar segments chunks (i + 1) more rest budget next
-  chunks_step i place d samples more part left rest budget chunk next far lt at read pushed spent few counted =
+  pub chunks_step : (i : ℕ) (place d : ChunkPlace) (samples more part : List Sample) (chunk next : ℕ) → ChunksSoFar segments chunks i samples chunk → i < length chunks → place ≡ get_or chunks i d
+      → chunk_at segments place ≡ Ok part → more ≡ samples ++ part → length part ≤ 8 * chunk_bytes segments place → next ≡ min (chunk + 1) (2 ^ 32 - 1) → ChunksSoFar segments chunks (i + 1) more next
+  chunks_step i place d samples more part chunk next far lt at read pushed few counted =
       let up = front chunks i place d lt at in
       let sums = sum_by-push (chunk_bytes segments) (take i chunks) place in
       record {
         parts = far.parts ++ part ∷ [];
         read = ap (λ (xs : List ChunkPlace). each_at (chunk_at segments) xs) up ∙ each_push (chunk_at segments) (take i chunks) far.parts place part far.read read;
         joined_are = pushed ∙ ap (λ (t : List Sample). t ++ part) far.joined_are ∙ sym (joined-push far.parts part);
-        spent = let s = far.spent in omega (arith, s, spent, sums, ap (sum_by (chunk_bytes segments)) up);
         few = let f = far.few in omega (arith, f, few, sums, ap (sum_by (chunk_bytes segments)) up, ap length pushed, length-append samples part);
         number = fitted_more i chunk next far.number counted;
       }
 
-  chunks_stop : (i : ℕ) (place d : ChunkPlace) (samples : List Sample) (left budget chunk series : ℕ) (cause : ChunkCause) (refusal : CheckRefusal) → ChunksSoFar segments chunks i samples left budget chunk → i < length chunks → place ≡ get_or chunks i d
+  chunks_stop : (i : ℕ) (place d : ChunkPlace) (samples : List Sample) (chunk series : ℕ) (cause : ChunkCause) (refusal : CheckRefusal) → ChunksSoFar segments chunks i samples chunk → i < length chunks → place ≡ get_or chunks i d
       → chunk_at segments place ≡ Err cause → refusal ≡ refused_cause series chunk cause → (r : ℕ × ChunkCause) × (each_at (chunk_at segments) chunks ≡ Err r) × (refusal ≡ refused_cause series (fitted r.0) r.1)
-  chunks_stop i place d samples left budget chunk series cause refusal far lt at refused is =
+  chunks_stop i place d samples chunk series cause refusal far lt at refused is =
       let stopped = each_stop (chunk_at segments) (take i chunks) (drop (i + 1) chunks) far.parts place cause far.read refused in
       let whole : each_at (chunk_at segments) chunks ≡ Err (length (take i chunks), cause) = ap (λ (xs : List ChunkPlace). each_at (chunk_at segments) xs) (behind chunks i place d lt at) ∙ stopped in
       ((i, cause), whole ∙ ap (λ (n : ℕ). Err (n, cause)) (taken chunks i lt), is ∙ ap (λ (n : ℕ). refused_cause series n cause) far.number)
 
-  pub chunks_stopped : (i : ℕ) (place d : ChunkPlace) (samples : List Sample) (left budget chunk series : ℕ) (cause : ChunkCause) (refusal : CheckRefusal) → ChunksSoFar segments chunks i samples left budget chunk → i < length chunks → place ≡ get_or chunks i d
+  pub chunks_stopped : (i : ℕ) (place d : ChunkPlace) (samples : List Sample) (chunk series : ℕ) (cause : ChunkCause) (refusal : CheckRefusal) → ChunksSoFar segments chunks i samples chunk → i < length chunks → place ≡ get_or chunks i d
       → (cause ≡ Data xor.NoMemory) ⊎ (chunk_at segments place ≡ Err cause) → refusal ≡ refused_cause series chunk cause → (refusal ≡ NoMemory) ⊎ ((r : ℕ × ChunkCause) × (each_at (chunk_at segments) chunks ≡ Err r) × (refusal ≡ refused_cause series (fitted r.0) r.1))
-  chunks_stopped i place d samples left budget chunk series cause refusal far lt at (inl none) is = inl (is ∙ ap (refused_cause series chunk) none)
-  chunks_stopped i place d samples left budget chunk series cause refusal far lt at (inr refused) is = inr (chunks_stop i place d samples left budget chunk series cause refusal far lt at refused is)
+  chunks_stopped i place d samples chunk series cause refusal far lt at (inl none) is = inl (is ∙ ap (refused_cause series chunk) none)
+  chunks_stopped i place d samples chunk series cause refusal far lt at (inr refused) is = inr (chunks_stop i place d samples chunk series cause refusal far lt at refused is)
 
 -- ---- the series of an index
 
-pub record SeriesSoFar (segments : List (List ℕ)) (indexed : List IndexSeries) (made : List Series) (left budget series : ℕ) : Type 0 where
+pub record SeriesSoFar (segments : List (List ℕ)) (indexed : List IndexSeries) (i : ℕ) (made : List Series) (number : ℕ) : Type 0 where
   pub parts : List (List (List Sample))
-  pub read : each_at (chunks_at segments) indexed ≡ Ok parts
-  pub made_are : made ≡ list_of indexed parts
-  pub spent : left + sum_by (series_bytes segments) indexed ≡ budget
-  pub few : AllZip (λ (one : IndexSeries) (made : Series). length made.samples ≤ 8 * series_bytes segments one) indexed made
-  pub number : series ≡ fitted (length indexed)
+  pub read : each_at (chunks_at segments) (take i indexed) ≡ Ok parts
+  pub made_are : made ≡ list_of (take i indexed) parts
+  pub few : AreFew segments (take i indexed) made
+  pub counted : number ≡ fitted i
 
 pub list_of_more : (indexed : List IndexSeries) (parts : List (List (List Sample))) (one : IndexSeries) (first : List (List Sample)) → length indexed ≡ length parts → list_of (indexed ++ one ∷ []) (parts ++ first ∷ []) ≡ list_of indexed parts ++ series_of one first ∷ []
 unfolding list_of
@@ -108,39 +105,38 @@ list_of_more [] (p ∷ parts) one first many = absurd (omega (arith, many))
 list_of_more (x ∷ indexed) [] one first many = absurd (omega (arith, many))
 list_of_more (x ∷ indexed) (p ∷ parts) one first many = ap (λ (t : List Series). series_of x p ∷ t) (list_of_more indexed parts one first (omega (arith, many)))
 
-module _ (segments : List (List ℕ)) where
-  pub series_start : (made : List Series) (budget : ℕ) → made ≡ [] → SeriesSoFar segments [] made budget budget 0
+module _ (segments : List (List ℕ)) (indexed : List IndexSeries) where
+  pub series_start : (made : List Series) → made ≡ [] → SeriesSoFar segments indexed 0 made 0
   unfolding each_at list_of
-  series_start made budget none = rw none (record { parts = []; read = refl; made_are = refl; spent = omega arith; few = tt; number = refl })
+  series_start made none = rw none (record { parts = []; read = refl; made_are = refl; few = tt; counted = refl })
 
-  pub series_step : (indexed new : List IndexSeries) (one : IndexSeries) (made more : List Series) (next : Series) (samples : List Sample) (left remains budget series number : ℕ) → SeriesSoFar segments indexed made left budget series → new ≡ indexed ++ one ∷ []
-      → ((first : List (List Sample)) × (each_at (chunk_at segments) one.chunks ≡ Ok first) × (samples ≡ joined first)) → next ≡ record { labels = one.labels; samples = samples } → more ≡ made ++ next ∷ []
-      → remains + series_bytes segments one ≡ left → length samples ≤ 8 * series_bytes segments one → number ≡ min (series + 1) (2 ^ 32 - 1) → SeriesSoFar segments new more remains budget number
-  series_step indexed new one made more next samples left remains budget series number far up (first, read, joined_are) is pushed spent few counted =
-      let many = each_many (chunks_at segments) indexed far.parts far.read in
-      let next_is : next ≡ series_of one first = is ∙ ap (λ (t : List Sample). record { labels = one.labels; samples = t }) joined_are in
-      let has : length next.samples ≤ 8 * series_bytes segments one = omega (arith, few, ap (λ (s : Series). length s.samples) is) in
-      rw (up, pushed) (record {
+  pub series_step : (i number next : ℕ) (one d : IndexSeries) (made more : List Series) (series : Series) → SeriesSoFar segments indexed i made number → i < length indexed → one ≡ get_or indexed i d
+      → ((first : List (List Sample)) × (each_at (chunk_at segments) one.chunks ≡ Ok first) × (series ≡ series_of one first)) → more ≡ made ++ series ∷ [] → length series.samples ≤ 8 * series_bytes segments one → next ≡ min (number + 1) (2 ^ 32 - 1) → SeriesSoFar segments indexed (i + 1) more next
+  series_step i number next one d made more series far lt at (first, read, is) pushed few counted =
+      let up = front indexed i one d lt at in
+      let many = each_many (chunks_at segments) (take i indexed) far.parts far.read in
+      rw pushed (record {
         parts = far.parts ++ first ∷ [];
-        read = each_push (chunks_at segments) indexed far.parts one first far.read read;
-        made_are = ap (λ (t : List Series). t ++ next ∷ []) far.made_are ∙ ap (λ (s : Series). list_of indexed far.parts ++ s ∷ []) next_is ∙ sym (list_of_more indexed far.parts one first many);
-        spent = let s = far.spent in omega (arith, s, spent, sum_by-push (series_bytes segments) indexed one);
-        few = AllZip-push (λ (one : IndexSeries) (made : Series). length made.samples ≤ 8 * series_bytes segments one) indexed made one next far.few has;
-        number = fitted_more (length indexed) series number far.number counted ∙ ap fitted (omega (arith, length-append indexed (one ∷ [])));
+        read = ap (λ (xs : List IndexSeries). each_at (chunks_at segments) xs) up ∙ each_push (chunks_at segments) (take i indexed) far.parts one first far.read read;
+        made_are = ap (λ (t : List Series). t ++ series ∷ []) far.made_are ∙ ap (λ (s : Series). list_of (take i indexed) far.parts ++ s ∷ []) is ∙ sym (list_of_more (take i indexed) far.parts one first many) ∙ sym (ap (λ (xs : List IndexSeries). list_of xs (far.parts ++ first ∷ [])) up);
+        few = subst (λ (xs : List IndexSeries). AreFew segments xs (made ++ series ∷ [])) (sym up) (AllZip-push (λ (one : IndexSeries) (made : Series). length made.samples ≤ 8 * series_bytes segments one) (take i indexed) made one series far.few few);
+        counted = fitted_more i number next far.counted counted;
       })
 
-  series_stop : (indexed others all : List IndexSeries) (one : IndexSeries) (made : List Series) (left budget series : ℕ) (refusal : CheckRefusal) → SeriesSoFar segments indexed made left budget series → all ≡ indexed ++ one ∷ others
-      → ((r : ℕ × ChunkCause) × (each_at (chunk_at segments) one.chunks ≡ Err r) × (refusal ≡ refused_cause series (fitted r.0) r.1)) → (r : ℕ × (ℕ × ChunkCause)) × (each_at (chunks_at segments) all ≡ Err r) × (refusal ≡ refused_chunk r)
-  series_stop indexed others all one made left budget series refusal far up (r, refused, is) = (
-    (length indexed, r),
-    ap (λ (xs : List IndexSeries). each_at (chunks_at segments) xs) up ∙ each_stop (chunks_at segments) indexed others far.parts one r far.read refused,
-    is ∙ ap (λ (n : ℕ). refused_cause n (fitted r.0) r.1) far.number,
-  )
+  pub series_stopped : (i number : ℕ) (one d : IndexSeries) (made : List Series) (refusal : CheckRefusal) → SeriesSoFar segments indexed i made number → i < length indexed → one ≡ get_or indexed i d
+      → (refusal ≡ NoMemory) ⊎ ((r : ℕ × ChunkCause) × (each_at (chunk_at segments) one.chunks ≡ Err r) × (refusal ≡ refused_cause number (fitted r.0) r.1)) → (refusal ≡ NoMemory) ⊎ ((r : ℕ × (ℕ × ChunkCause)) × (each_at (chunks_at segments) indexed ≡ Err r) × (refusal ≡ refused_chunk r))
+  series_stopped i number one d made refusal far lt at (inl none) = inl none
+  series_stopped i number one d made refusal far lt at (inr (r, refused, is)) =
+      let stopped = each_stop (chunks_at segments) (take i indexed) (drop (i + 1) indexed) far.parts one r far.read refused in
+      inr ((i, r), ap (λ (xs : List IndexSeries). each_at (chunks_at segments) xs) (behind indexed i one d lt at) ∙ stopped ∙ ap (λ (n : ℕ). Err (n, r)) (taken indexed i lt), is ∙ ap (λ (n : ℕ). refused_cause n (fitted r.0) r.1) far.counted)
 
-  pub series_stopped : (indexed others all : List IndexSeries) (one : IndexSeries) (made : List Series) (left budget series : ℕ) (refusal : CheckRefusal) → SeriesSoFar segments indexed made left budget series → all ≡ indexed ++ one ∷ others
-      → (refusal ≡ NoMemory) ⊎ ((r : ℕ × ChunkCause) × (each_at (chunk_at segments) one.chunks ≡ Err r) × (refusal ≡ refused_cause series (fitted r.0) r.1)) → (refusal ≡ NoMemory) ⊎ ((r : ℕ × (ℕ × ChunkCause)) × (each_at (chunks_at segments) all ≡ Err r) × (refusal ≡ refused_chunk r))
-  series_stopped indexed others all one made left budget series refusal far up (inl none) = inl none
-  series_stopped indexed others all one made left budget series refusal far up (inr refused) = inr (series_stop indexed others all one made left budget series refusal far up refused)
+  pub series_end : (i number : ℕ) (made : List Series) → SeriesSoFar segments indexed i made number → length indexed ≤ i → (parts : List (List (List Sample))) × (each_at (chunks_at segments) indexed ≡ Ok parts) × (made ≡ list_of indexed parts)
+  series_end i number made far le =
+      let all = take_all i indexed le in
+      (far.parts, ap (λ (xs : List IndexSeries). each_at (chunks_at segments) xs) (sym all) ∙ far.read, far.made_are ∙ ap (λ (xs : List IndexSeries). list_of xs far.parts) all)
+
+  pub series_few : (i number : ℕ) (made : List Series) → SeriesSoFar segments indexed i made number → length indexed ≤ i → AreFew segments indexed made
+  series_few i number made far le = subst (λ (xs : List IndexSeries). AreFew segments xs made) (take_all i indexed le) far.few
 
 -- ---- from one walk to another
 
@@ -157,15 +153,16 @@ moved_stop segments series seen chunks e same stopped = subst (λ (xs : List Chu
 pub moved_read : (segments : List (List ℕ)) (seen chunks : List ChunkPlace) (Is : List (List Sample) → Type 0) → seen ≡ chunks → ((parts : List (List Sample)) × (each_at (chunk_at segments) seen ≡ Ok parts) × Is parts) → (parts : List (List Sample)) × (each_at (chunk_at segments) chunks ≡ Ok parts) × Is parts
 moved_read segments seen chunks Is same read = subst (λ (xs : List ChunkPlace). (parts : List (List Sample)) × (each_at (chunk_at segments) xs ≡ Ok parts) × Is parts) same read
 
+abbrev pub series_with : List Label → List Sample → Series
+series_with labels samples = record { labels = labels; samples = samples }
+
+-- a series of an index with the samples that were read
+pub one_made : (segments : List (List ℕ)) (one : IndexSeries) (seen : List ChunkPlace) (labels lent : List Label) (samples items : List Sample) → seen ≡ one.chunks → labels ≡ lent → lent ≡ one.labels → samples ≡ items
+    → ((parts : List (List Sample)) × (each_at (chunk_at segments) seen ≡ Ok parts) × (items ≡ joined parts)) → (parts : List (List Sample)) × (each_at (chunk_at segments) one.chunks ≡ Ok parts) × (series_with labels samples ≡ series_of one parts)
+one_made segments one seen labels lent samples items same told lends are read =
+    let p = moved_read segments seen one.chunks (λ parts. items ≡ joined parts) same read in
+    (p.0, p.1, ap₂ series_with (told ∙ lends) (are ∙ p.2))
+
 pub walk_stops : {X : Type 0} (segments : List (List ℕ)) (indexed : List IndexSeries) (Is : X → List (List (List Sample)) → Type 0) (result : Result X CheckRefusal) (e : CheckRefusal) → IsErrAnd result (λ d. d ≡ e) → SeriesStopped segments indexed e → WalksSeries segments indexed Is result
 walk_stops segments indexed Is (Ok x) e is why = absurd is
 walk_stops segments indexed Is (Err d) e is why = subst (λ (c : CheckRefusal). SeriesStopped segments indexed c) (sym is) why
-
--- ---- members that were taken from the front
-
-map_same : {A : Type 0} (xs : List A) → map (λ (x : A). x) xs ≡ xs
-map_same [] = refl
-map_same {A} (x ∷ xs) = ap (λ (ys : List A). x ∷ ys) (map_same xs)
-
-pub yielded_behind : (all yielded : List IndexSeries) (one : IndexSeries) → map (λ (x : IndexSeries). x) yielded ≡ take (length yielded) all → (length yielded < length all) × (one ≡ get_or all (length yielded) one) → all ≡ yielded ++ one ∷ drop (length yielded + 1) all
-yielded_behind all yielded one so_far next = behind all (length yielded) one one next.0 next.1 ∙ ap (λ (ys : List IndexSeries). ys ++ one ∷ drop (length yielded + 1) all) (sym so_far ∙ map_same yielded)

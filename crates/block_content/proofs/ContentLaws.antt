@@ -25,7 +25,7 @@ use Rattle.block_meta.specs.declared.block_files.BlockFiles.{BlockFiles}
 use Rattle.block_content.specs.declared.chunk_cause.ChunkCause.{ChunkCause}
 use Rattle.block_content.specs.declared.chunk_cause.ChunkCause.TheVariants.{File, Data, NoSamples, TimesDiffer}
 use Rattle.block_content.specs.declared.check_refusal.CheckRefusal.{CheckRefusal}
-use Rattle.block_content.specs.declared.check_refusal.CheckRefusal.TheVariants.{NoFile, BadMeta, UlidDiffers, NotLevelOne, SourcesNotSelf, Downsampled, TooLarge, BadIndex, EmptyBlock, BadChunk, OutsideRange, Repeated, NoMemory}
+use Rattle.block_content.specs.declared.check_refusal.CheckRefusal.TheVariants.{NoFile, BadMeta, UlidDiffers, NotLevelOne, SourcesNotSelf, Downsampled, TooLarge, BadIndex, EmptyBlock, BadChunk, OutsideRange, Repeated, NamesTooMuch, NoMemory}
 use Rattle.base.proofs.FirstLaws.{Tells, each_tells, all_good, all_pass, first_found, first_again}
 use Rattle.block_content.proofs.ChunksRead.{chunk_tells}
 use Rattle.block_content.proofs.TimesAndOrder.{index_found, index_again, times_find, order_finds}
@@ -88,7 +88,7 @@ index_kept (index.BadSeries number part) other = refl
 index_kept (index.PostingsDiffer place) other = refl
 index_kept index.NoMemory other = absurd (other refl)
 
-index_cases : (refusal : IndexRefusal) → (refused_index refusal ≡ NoMemory) ⊎ ((refused_index refusal ≡ BadIndex refusal) × (refusal ≢ index.NoMemory))
+pub index_cases : (refusal : IndexRefusal) → (refused_index refusal ≡ NoMemory) ⊎ ((refused_index refusal ≡ BadIndex refusal) × (refusal ≢ index.NoMemory))
 index_cases index.BadMagic = inr (refl, λ h. absurd cc)
 index_cases index.BadVersion = inr (refl, λ h. absurd cc)
 index_cases (index.BadTocSum kept computed) = inr (refl, λ h. absurd cc)
@@ -236,6 +236,7 @@ module _ (files : BlockFiles) (bytes : IsBytes files.index) (are : AllByRecursio
   content_refuses Downsampled is = absurd is
   content_refuses (TooLarge key) is = absurd is
   content_refuses EmptyBlock is = absurd is
+  content_refuses NamesTooMuch is = absurd is
   content_refuses NoMemory is = absurd is
 
 -- ---- what the call says

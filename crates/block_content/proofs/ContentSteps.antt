@@ -2,7 +2,6 @@
 use Rattle.std.proofs.Common.{◌≡◌, ℕ, List, None, Some, Ok, Err, ℤ, refl, sym, ap, ◌∙◌, ◌⊎◌, inl, inr}
 use Rattle.base.specs.Reading.{refused_as}
 use Rattle.label_sets.specs.declared.sample.Sample.{Sample}
-use Rattle.label_sets.specs.declared.series.Series.{Series}
 use Rattle.index_parts.specs.declared.index_series.IndexSeries.{IndexSeries}
 use Rattle.block_meta.specs.declared.meta.Meta.{Meta}
 use Rattle.base.specs.Firsts.{each_at, first_at}
@@ -54,22 +53,3 @@ module _ (meta : Meta) (index : List ℕ) (segments : List (List ℕ)) (indexed 
         | inl none ↦ inl none
         | inr h ↦ inr (behind_index meta index segments indexed read ∙ h)
       ]
-
-  module _ (list lent : List Series) (made : (parts : List (List (List Sample))) × (each_at (chunks_at segments) items ≡ Ok parts) × (list ≡ list_of items parts)) (lends : lent ≡ list) where
-    all_parts : each_at (chunks_at segments) indexed ≡ Ok made.0
-    all_parts = ap (each_at (chunks_at segments)) (sym moved) ∙ made.1
-
-    list_is : lent ≡ list_of indexed made.0
-    list_is = lends ∙ made.2 ∙ ap (λ (xs : List IndexSeries). list_of xs made.0) moved
-
-    pub outside_refused : (series : ℕ) (time told : ℤ) → ((place : ℕ) × (first_at (first_outside meta) lent ≡ Some (place, time)) × (series ≡ fitted place)) → told ≡ time → contents_at meta index segments ≡ Err (OutsideRange series told)
-    outside_refused series time told (place, found, is) same =
-        behind_index meta index segments indexed read ∙ times_refused meta segments indexed made.0 all_parts place series time (ap (first_at (first_outside meta)) (sym list_is) ∙ found) is ∙ ap (λ (t : ℤ). Err (OutsideRange series t)) (sym same)
-
-    pub repeated_refused : (seen : List IndexSeries) (series : ℕ) → seen ≡ indexed → first_at (first_outside meta) lent ≡ None → ((place : ℕ) × (first_at repeated_in seen ≡ Some (place, tt)) × (series ≡ fitted place)) → contents_at meta index segments ≡ Err (Repeated series)
-    repeated_refused seen series same none (place, found, is) =
-        behind_index meta index segments indexed read ∙ order_refused meta segments indexed made.0 all_parts place series (ap (first_at (first_outside meta)) (sym list_is) ∙ none) (ap (first_at repeated_in) (sym same) ∙ found) is
-
-    pub content_read : (seen : List IndexSeries) → seen ≡ indexed → first_at (first_outside meta) lent ≡ None → first_at repeated_in seen ≡ None → contents_at meta index segments ≡ Ok list
-    content_read seen same none none' =
-        behind_index meta index segments indexed read ∙ all_read meta segments indexed made.0 all_parts (ap (first_at (first_outside meta)) (sym list_is) ∙ none) (ap (first_at repeated_in) (sym same) ∙ none') ∙ ap (λ (xs : List Series). Ok xs) (sym list_is ∙ lends)

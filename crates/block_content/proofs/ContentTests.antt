@@ -1,11 +1,11 @@
 -- What testing a block's files comes to.
 use Rattle.std.proofs.Common.{◌≡◌, ℕ, List, Option, Some, None, Result, Ok, Err, ℤ, sym, ap, subst, ◌∙◌, ◌⊎◌, inl, inr}
-use Rattle.std.specs.Prelude.{MatchOption, IfOk, IfErr, IsErrAnd, ◌*◌, ◌≤◌, length, sum_by}
+use Rattle.std.specs.Prelude.{MatchOption, IfOk, IfErr, IsErrAnd}
 use Rattle.std.specs.List.{AllByRecursion}
 use Rattle.std.specs.Result.{IsOkAnd}
 use Rattle.base.specs.Grammar.{IsBytes}
-use Rattle.base.specs.Reading.{refused_as}
-use Rattle.base.proofs.Binds.{err_is, refused_as_ok}
+use Rattle.base.specs.Reading.{Gives, refused_as}
+use Rattle.base.proofs.Binds.{err_is, refused_as_ok, one_answer}
 use Rattle.label_sets.specs.Counts.{sample_count}
 use Rattle.label_sets.specs.declared.sample.Sample.{Sample}
 use Rattle.label_sets.specs.declared.series.Series.{Series}
@@ -16,13 +16,13 @@ use Rattle.block_meta.specs.declared.block_files.BlockFiles.{BlockFiles}
 use Rattle.block_content.specs.Content.{IsContent}
 use Rattle.block_content.specs.ContentRefusals.{RefusesContent}
 use Rattle.base.specs.Firsts.{each_at, first_at}
-use Rattle.block_content.specs.ContentReading.{ListsFew, series_bytes, chunks_at, list_of, first_outside, repeated_in, fitted, refused_index, index_at, contents_at}
+use Rattle.block_content.specs.ContentReading.{WalksSeries, AreFew, ListsFew, chunks_at, list_of, first_outside, repeated_in, fitted, refused_index, index_at, contents_at}
 use Rattle.block_content.specs.CheckReading.{found_at, IsFirstFound, IsTested}
 use Rattle.block_content.specs.declared.check_refusal.CheckRefusal.{CheckRefusal}
 use Rattle.block_content.specs.declared.check_refusal.CheckRefusal.TheVariants.{NoMemory}
 use Rattle.block_content.proofs.TimesAndOrder.{index_found}
 use Rattle.block_content.proofs.ContentLaws.{content_found, content_again, content_refused, content_refuses}
-use Rattle.block_content.proofs.ContentSteps.{chunks_refused, behind_index, index_stops}
+use Rattle.block_content.proofs.ContentSteps.{chunks_refused, list_refused, behind_index, index_stops}
 use Rattle.block_content.proofs.CheckSteps.{refused_by, passed_by}
 use Rattle.block_content.proofs.ChunkWalks.{SeriesStopped}
 
@@ -59,11 +59,24 @@ module _ (meta : Meta) (index : List ℕ) (segments : List (List ℕ)) (indexed 
     pub found_stops : (e : CheckRefusal) → found_at outside repeated ≡ Err e → (e ≡ NoMemory) ⊎ (contents_at meta index segments ≡ Err e)
     found_stops e h = inr (behind_index meta index segments indexed read ∙ refused_by meta segments indexed counted.0 parts_read outside repeated times_told order_told e h)
 
+    all_held : found_at outside repeated ≡ Ok tt → contents_at meta index segments ≡ Ok (list_of indexed counted.0)
+    all_held h = behind_index meta index segments indexed read ∙ passed_by meta segments indexed counted.0 parts_read outside repeated times_told order_told h
+
     pub all_tested : found_at outside repeated ≡ Ok tt → IsTested meta index segments (Ok indexed)
-    all_tested h = (
-      refused_as_ok refused_index (index_at index) indexed read,
-      (list_of indexed counted.0, behind_index meta index segments indexed read ∙ passed_by meta segments indexed counted.0 parts_read outside repeated times_told order_told h),
-    )
+    all_tested h = (refused_as_ok refused_index (index_at index) indexed read, (list_of indexed counted.0, all_held h))
+
+    -- what is built of the same series is the content
+    pub built_is : (items : List IndexSeries) → items ≡ indexed → found_at outside repeated ≡ Ok tt → (r : Result (List Series) CheckRefusal) → WalksSeries segments items (λ made parts. made ≡ list_of items parts) r → Gives NoMemory (λ list. list) r (contents_at meta index segments)
+    built_is items moved h (Ok list) (parts, built, is) =
+        let same : parts ≡ counted.0 = one_answer parts counted.0 (each_at (chunks_at segments) indexed) (ap (each_at (chunks_at segments)) (sym moved) ∙ built) parts_read in
+        all_held h ∙ ap (λ (xs : List Series). Ok xs) (sym (is ∙ ap (λ (xs : List IndexSeries). list_of xs parts) moved ∙ ap (list_of indexed) same))
+    built_is items moved h (Err e) why = list_refused meta index segments indexed items read moved e why
+
+-- what is built is few
+pub built_few : (index : List ℕ) (segments : List (List ℕ)) (indexed seen : List IndexSeries) (r : Result (List Series) CheckRefusal) → refused_as refused_index (index_at index) ≡ Ok indexed → ListsFew index indexed → seen ≡ indexed → IfOk r (AreFew segments seen)
+    → IfOk r (λ list. (indexed : List IndexSeries) × (index_at index ≡ Ok indexed) × ListsFew index indexed × AreFew segments indexed list)
+built_few index segments indexed seen (Ok list) read listed lends few = (indexed, refused_as_ok refused_index (index_at index) indexed read, listed, subst (λ (xs : List IndexSeries). AreFew segments xs list) lends few)
+built_few index segments indexed seen (Err e) read listed lends few = tt
 
 -- ---- what the call says
 
@@ -74,10 +87,8 @@ module _ (files : BlockFiles) (index : List ℕ) (segments : List (List ℕ)) (i
   pub index_bytes : IsBytes files.index
   index_bytes = subst IsBytes index_is bytes.0
 
-  pub test_few : (r : Result (List IndexSeries) CheckRefusal) → IfOk r (λ indexed. ListsFew index indexed × (sum_by (series_bytes segments) indexed ≤ 8 * sum_by length segments)) → IfOk r (λ indexed. ListsFew files.index indexed × (sum_by (series_bytes files.segments) indexed ≤ 8 * sum_by length files.segments))
-  test_few r given =
-      subst (λ (s : List (List ℕ)). IfOk r (λ indexed. ListsFew files.index indexed × (sum_by (series_bytes s) indexed ≤ 8 * sum_by length s))) segments_are
-      (subst (λ (b : List ℕ). IfOk r (λ indexed. ListsFew b indexed × (sum_by (series_bytes segments) indexed ≤ 8 * sum_by length segments))) index_is given)
+  pub test_few : (r : Result (List IndexSeries) CheckRefusal) → IfOk r (ListsFew index) → IfOk r (ListsFew files.index)
+  test_few r given = subst (λ (b : List ℕ). IfOk r (ListsFew b)) index_is given
 
   all_bytes : AllByRecursion IsBytes files.segments
   all_bytes = subst (AllByRecursion IsBytes) segments_are bytes.1

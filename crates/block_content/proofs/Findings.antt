@@ -3,13 +3,12 @@ use Rattle.std.proofs.Common.{◌≡◌, ℕ, ◌+◌, ◌-◌, ◌^◌, ◌<◌
 use Rattle.std.specs.Prelude.{option_map}
 use Rattle.std.proofs.lemmas.List.{drop_more, drop_all}
 use Rattle.label_sets.specs.declared.sample.Sample.{Sample}
-use Rattle.label_sets.specs.declared.series.Series.{Series}
 use Rattle.label_sets.specs.Times.{is_within}
 use Rattle.index_parts.specs.declared.chunk_place.ChunkPlace.{ChunkPlace}
 use Rattle.index_parts.specs.declared.index_series.IndexSeries.{IndexSeries}
 use Rattle.block_meta.specs.declared.meta.Meta.{Meta}
 use Rattle.base.specs.Firsts.{first_at}
-use Rattle.block_content.specs.ContentReading.{outside_of, first_time, first_outside, begins_after, follow, repeated_in, fitted}
+use Rattle.block_content.specs.ContentReading.{outside_of, first_time, begins_after, follow, repeated_in, fitted}
 use Rattle.base.proofs.FirstLaws.{none_step, some_stop, none_end}
 use Rattle.block_content.proofs.ChunkWalks.{fitted_more}
 
@@ -37,7 +36,7 @@ time_stop meta samples i sample d r none lt at is failed = sym (ap (option_map (
 pub time_end : (meta : Meta) (samples : List Sample) (i : ℕ) → NoneOutside meta samples i → length samples ≤ i → None ≡ first_time meta samples
 time_end meta samples i none le = sym (ap (option_map (λ (q : ℕ × ℤ). q.1)) (none_end (outside_of meta) samples i none le))
 
--- ---- a series with such a sample, and one whose chunks do not follow one another
+-- ---- a series whose chunks do not follow one another
 
 module _ {A X : Type 0} (found : A → Option X) where
   pub record NoneYet (list : List A) (i series : ℕ) : Type 0 where
@@ -53,17 +52,6 @@ module _ {A X : Type 0} (found : A → Option X) where
 
   pub yet_stop : (list : List A) (i series : ℕ) (one d : A) (e : X) → NoneYet list i series → i < length list → one ≡ get_or list i d → found one ≡ Some e → (place : ℕ) × (first_at found list ≡ Some (place, e)) × (series ≡ fitted place)
   yet_stop list i series one d e far lt at is = (i, some_stop found list i one d e far.none lt at is, far.number)
-
--- the same of times of series
-pub outside_stop : (meta : Meta) (list : List Series) (i series : ℕ) (one d : Series) (samples : List Sample) (time told : ℤ) → NoneYet (first_outside meta) list i series → i < length list → one ≡ get_or list i d → samples ≡ one.samples
-    → Some time ≡ first_time meta samples → told ≡ time → (place : ℕ) × (first_at (first_outside meta) list ≡ Some (place, told)) × (series ≡ fitted place)
-outside_stop meta list i series one d samples time told far lt at are found same =
-    let r = yet_stop (first_outside meta) list i series one d time far lt at (ap (first_time meta) (sym are) ∙ sym found) in
-    (r.0, r.1 ∙ ap (λ (t : ℤ). Some (r.0, t)) (sym same), r.2)
-
-pub outside_step : (meta : Meta) (list : List Series) (i series next : ℕ) (one d : Series) (samples : List Sample) → NoneYet (first_outside meta) list i series → i < length list → one ≡ get_or list i d → samples ≡ one.samples → first_time meta samples ≡ None → next ≡ min (series + 1) (2 ^ 32 - 1)
-    → NoneYet (first_outside meta) list (i + 1) next
-outside_step meta list i series next one d samples far lt at are none counted = yet_step (first_outside meta) list i series next one d far lt at (ap (first_time meta) (sym are) ∙ none) counted
 
 -- ---- chunks one after another
 

@@ -1,10 +1,11 @@
 pub mod ChunksRead
 pub mod ChunkWalks
+pub mod ChunkOrders
 pub mod TimesAndOrder
 pub mod ContentLaws
 pub mod Findings
 pub mod ContentSteps
-pub mod Counting
+pub mod CountsSoFar
 pub mod CheckLaws
 pub mod CheckSteps
 pub mod Appending
@@ -14,3 +15,6 @@ pub mod SameFiles
 pub mod FewListed
 pub mod ContentTests
 pub mod SpanTests
+pub mod FoundPlaces
+pub mod NamedBytes
+pub mod BytesRead

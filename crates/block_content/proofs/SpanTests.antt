@@ -1,22 +1,21 @@
--- What is told of the span of a chunk's samples is told of the samples.
-use Rattle.std.proofs.Common.{◌≡◌, ℕ, suc, ◌-◌, List, [], ◌∷◌, length, Option, None, Result, Ok, Err, true, ℤ, refl, sym, ap, ◌∙◌, arith}
+-- What is found at a place tells what the chunk there is, by the times that the chunk's place tells.
+use Rattle.std.proofs.Common.{◌≡◌, ℕ, suc, ◌-◌, List, [], ◌∷◌, length, Result, Ok, Err, ℤ, refl, sym, ap, ◌∙◌, arith, ◌⊎◌, inl, inr}
 use Rattle.std.specs.Prelude.{slice_get}
 use Rattle.std.specs.Ordering.{int_eq}
-use Rattle.base.specs.Reading.{◌>>=◌, ◌>>◌, Answers}
+use Rattle.base.specs.Reading.{◌>>=◌, ◌>>◌, unless, refused_as}
 use Rattle.base.proofs.Binds.{ok_is}
 use Rattle.label_sets.specs.declared.sample.Sample.{Sample}
 use Rattle.index_parts.specs.declared.chunk_place.ChunkPlace.{ChunkPlace}
 use Rattle.block_meta.specs.declared.meta.Meta.{Meta}
-use Rattle.xor_chunks.specs.declared.refusal.XorRefusal.{XorRefusal}
-use Rattle.xor_chunks.specs.declared.spanning.SampleSpan.{SampleSpan}
-use Rattle.xor_chunks.specs.Data.{data_at, with_samples}
-use Rattle.xor_chunks.specs.Grammar.{IsText}
+use Rattle.xor_chunks.specs.Data.{data_at}
 use Rattle.xor_chunks.specs.Spans as spans
-use Rattle.xor_chunks.proofs.TextsRead.{data_again}
-use Rattle.block_content.specs.ContentReading.{data_of, is_time, part_at, samples_at, chunk_at, span_at, first_time, lies_within, LieBetween, MadeOfData, MadeOfChunk}
+use Rattle.xor_chunks.specs.declared.refusal.XorRefusal.TheVariants as xor
+use Rattle.block_content.specs.ContentReading.{data_of, chunk_bytes, are_some, have_times_of, is_time, part_at, samples_at, chunk_at, span_at, first_time}
+use Rattle.block_content.specs.StoredPlaces.{stored_at, IsFoundAt}
 use Rattle.block_content.specs.declared.chunk_cause.ChunkCause.{ChunkCause}
-use Rattle.block_content.specs.declared.chunk_cause.ChunkCause.TheVariants.{Data}
-use Rattle.block_content.proofs.Appending.{data_refused, part_refused, part_read, chunk_follows, text_between, none_outside, alone_read}
+use Rattle.block_content.specs.declared.chunk_cause.ChunkCause.TheVariants.{File, Data, NoSamples, TimesDiffer}
+use Rattle.block_content.specs.declared.places.Found.{Found}
+use Rattle.block_content.proofs.Appending.{part_fails, part_passes}
 
 -- ---- the test of a span
 
@@ -38,45 +37,42 @@ tested_err : (test : Result (Unit {0}) ChunkCause) (count : ℕ) (d : ChunkCause
 tested_err (Ok u) count d e = absurd cc
 tested_err (Err c) count d e = cc
 
--- ---- a chunk's data
+-- ---- a chunk is the data at its place, with the times that the place tells
 
-read_refused : (read : Result (List Sample) XorRefusal) (d : XorRefusal) → (read >>= λ samples. Ok (spans.span_of samples)) ≡ Err d → read ≡ Err d
-read_refused (Ok x) d e = absurd cc
-read_refused (Err c) d e = cc
+-- the test of the samples that the data stands for
+tested : ChunkPlace → List Sample → Result (List Sample) ChunkCause
+tested place samples = unless (are_some samples) NoSamples >> (unless (have_times_of place samples) TimesDiffer >> Ok samples)
 
-module _ (place : ChunkPlace) (content : List ℕ) where
-  pub span_refused : (d : XorRefusal) → spans.span_at 8 content ≡ Err d → samples_at place content ≡ Err (Data d)
-  span_refused d e = data_refused place content d (read_refused (data_at 8 content) d e)
+in_turn : (r : Result (List ℕ) ChunkCause) (f : List ℕ → Result (List Sample) ChunkCause) (g : List Sample → Result (List Sample) ChunkCause) → ((r >>= f) >>= g) ≡ (r >>= λ content. (f content >>= g))
+in_turn (Ok content) f g = refl
+in_turn (Err e) f g = refl
 
-  pub counts : (span : Option SampleSpan) (r : Result ℕ ChunkCause) → ((part : List Sample) × IsText 8 content part × (span ≡ spans.span_of part)) → Answers (λ n. n) r (span_at place span) → MadeOfData place content (λ count part. (count ≡ length part) × LieBetween place part) r
-  counts span (Ok n) (part, is, span_is) e =
-      let tested = tested_ok (part_at place part) (length part) n (sym (span_tests place part) ∙ ap (span_at place) (sym span_is) ∙ e) in
-      let read = part_read place content part (data_again 8 content part is) tested.0 in
-      (part, read.0, (tested.1, text_between place content part is read.1))
-  counts span (Err d) (part, is, span_is) e =
-      part_refused place content part d (data_again 8 content part is) (tested_err (part_at place part) (length part) d (sym (span_tests place part) ∙ ap (span_at place) (sym span_is) ∙ e))
+module _ (segments : List (List ℕ)) (place : ChunkPlace) where
+  chunk_of_stored : chunk_at segments place ≡ (stored_at segments place >>= tested place)
+  unfolding chunk_at samples_at stored_at tested
+  chunk_of_stored = sym (in_turn (refused_as File (data_of segments place)) (λ content. refused_as Data (data_at 8 content)) (tested place))
 
--- ---- a chunk
+  chunk_behind : (samples : List Sample) → stored_at segments place ≡ Ok samples → chunk_at segments place ≡ tested place samples
+  chunk_behind samples e = chunk_of_stored ∙ ap (λ (r : Result (List Sample) ChunkCause). r >>= tested place) e
 
-module _ (segments : List (List ℕ)) (place : ChunkPlace) (content : List ℕ) (stands : data_of segments place ≡ Ok content) where
-  pub counted_chunk : (n : ℕ) → ((part : List Sample) × (samples_at place content ≡ Ok part) × ((n ≡ length part) × LieBetween place part)) → (part : List Sample) × (chunk_at segments place ≡ Ok part) × ((n ≡ length part) × LieBetween place part)
-  counted_chunk n (part, read, told) = (part, chunk_follows segments place content stands ∙ read, told)
+  pub stored_refused : (e : ChunkCause) → (e ≡ Data xor.NoMemory) ⊎ (stored_at segments place ≡ Err e) → (e ≡ Data xor.NoMemory) ⊎ (chunk_at segments place ≡ Err e)
+  stored_refused e (inl none) = inl none
+  stored_refused e (inr refused) = inr (chunk_of_stored ∙ ap (λ (r : Result (List Sample) ChunkCause). r >>= tested place) refused)
 
-  pub refused_chunk : (e : ChunkCause) → samples_at place content ≡ Err e → chunk_at segments place ≡ Err e
-  refused_chunk e h = chunk_follows segments place content stands ∙ h
+  module _ (meta : Meta) (found : Found) (is : IsFoundAt meta segments place found) where
+    pub found_refused : (e : ChunkCause) → span_at place found.span ≡ Err e → chunk_at segments place ≡ Err e
+    unfolding tested
+    found_refused e refused =
+        let (samples, stored, spans_are, time, bytes) = is in
+        let test = tested_err (part_at place samples) (length samples) e (sym (span_tests place samples) ∙ ap (span_at place) (sym spans_are) ∙ refused) in
+        chunk_behind samples stored ∙ part_fails _ _ samples e test
 
--- ---- what is counted of a chunk
+    pub found_passes : (count : ℕ) → span_at place found.span ≡ Ok count → (part : List Sample) × (chunk_at segments place ≡ Ok part) × ((count ≡ length part) × (found.outside ≡ first_time meta part))
+    unfolding tested
+    found_passes count passes =
+        let (samples, stored, spans_are, time, bytes) = is in
+        let test = tested_ok (part_at place samples) (length samples) count (sym (span_tests place samples) ∙ ap (span_at place) (sym spans_are) ∙ passes) in
+        (samples, chunk_behind samples stored ∙ (part_passes _ _ samples test.0).0, (test.1, time))
 
-module _ (meta : Meta) (segments : List (List ℕ)) (place : ChunkPlace) where
-  -- no sample of a chunk whose place lies within the block's times is outside of these
-  pub within_is : {X : Type 0} (samples_in : X → ℕ) (outside_in : X → Option ℤ) (r : Result X ChunkCause) → lies_within meta place ≡ true
-      → MadeOfChunk segments place (λ x part. (samples_in x ≡ length part) × (outside_in x ≡ None) × LieBetween place part) r
-      → MadeOfChunk segments place (λ x part. (samples_in x ≡ length part) × (outside_in x ≡ first_time meta part)) r
-  within_is samples_in outside_in (Ok x) lies (part, read, (many, none, between)) = (part, read, (many, none ∙ sym (none_outside meta place part lies between)))
-  within_is samples_in outside_in (Err e) lies why = why
-
-  -- what was read behind nothing
-  pub beyond_is : (front all lent : List Sample) (n : ℕ) (outside : Option ℤ) → front ≡ [] → lent ≡ all → with_samples front (chunk_at segments place) ≡ Ok all → n ≡ length all → outside ≡ first_time meta lent
-      → (part : List Sample) × (chunk_at segments place ≡ Ok part) × ((n ≡ length part) × (outside ≡ first_time meta part))
-  beyond_is front all lent n outside none lends read many found =
-      (lent, alone_read front all lent (chunk_at segments place) none lends read, (many ∙ ap (λ (ss : List Sample). length ss) (sym lends), found))
+pub found_bytes : (segments : List (List ℕ)) (place : ChunkPlace) (meta : Meta) (found : Found) → IsFoundAt meta segments place found → found.bytes ≡ chunk_bytes segments place
+found_bytes segments place meta found (samples, stored, spans_are, time, bytes) = bytes

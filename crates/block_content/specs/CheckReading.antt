@@ -7,8 +7,10 @@ use Rattle.label_sets.specs.Counts.{sample_count}
 use Rattle.index_parts.specs.declared.index_series.IndexSeries.{IndexSeries}
 use Rattle.block_meta.specs.declared.meta.Meta.{Meta}
 use Rattle.block_content.specs.ContentReading.{index_at, refused_index, chunked_at, contents_at, fitted}
+use Rattle.block_content.specs.Named.{names_few}
+use Rattle.block_content.specs.ReadBytes.{reads_few}
 use Rattle.block_content.specs.declared.check_refusal.CheckRefusal.{CheckRefusal}
-use Rattle.block_content.specs.declared.check_refusal.CheckRefusal.TheVariants.{UlidDiffers, NotLevelOne, SourcesNotSelf, Downsampled, EmptyBlock, OutsideRange, Repeated, NoMemory}
+use Rattle.block_content.specs.declared.check_refusal.CheckRefusal.TheVariants.{UlidDiffers, NotLevelOne, SourcesNotSelf, Downsampled, EmptyBlock, OutsideRange, Repeated, NamesTooMuch, NoMemory}
 
 -- a block is the only one of the sources
 abbrev pub is_alone : ℕ → List ℕ → Bool
@@ -28,27 +30,24 @@ abbrev pub has_series : List IndexSeries → Bool
 has_series [] = false
 has_series (one ∷ indexed) = true
 
--- what the files hold, which is something
-unfoldable pub some_at : Meta → List (List ℕ) → List IndexSeries → Result (List Series) CheckRefusal
-some_at meta segments indexed = do
+-- what the files hold, which is something, of which little is read, and which names little
+unfoldable pub some_at : Meta → List ℕ → List (List ℕ) → List IndexSeries → Result (List Series) CheckRefusal
+some_at meta index segments indexed = do
   unless (has_series indexed) EmptyBlock
-  chunked_at meta segments indexed
+  unless (reads_few segments indexed) NamesTooMuch
+  list ← chunked_at meta segments indexed
+  unless (names_few index segments indexed) NamesTooMuch
+  Ok list
 
 unfoldable pub files_at : Meta → List ℕ → List (List ℕ) → Result (List Series) CheckRefusal
 files_at meta index segments = do
   indexed ← refused_as refused_index (index_at index)
-  some_at meta segments indexed
+  some_at meta index segments indexed
 
 unfoldable pub check_at : ℕ → Meta → List ℕ → List (List ℕ) → Result (List Series) CheckRefusal
 check_at ulid meta index segments = do
   own_at ulid meta
   files_at meta index segments
-
--- the same of a block whose index was read
-unfoldable pub indexed_at : ℕ → Meta → List (List ℕ) → List IndexSeries → Result (List Series) CheckRefusal
-indexed_at ulid meta segments indexed = do
-  own_at ulid meta
-  some_at meta segments indexed
 
 -- ---- what is counted
 

@@ -1,5 +1,5 @@
 -- What reading a block's content gives, or the first refusal.
-use Rattle.std.specs.Prelude.{ℕ, ◌+◌, ◌*◌, ◌≤◌, ◌-◌, ◌^◌, min, sum_by, All, List, [], ◌∷◌, length, slice_get, Option, None, Some, option_map, Bool, true, false, ◌&&◌, Result, Ok, Err, ◌≡◌, ◌⊎◌, MatchResult, ℤ, ◌≤ℤ◌, int_lt, int_le, if◌then◌else◌}
+use Rattle.std.specs.Prelude.{ℕ, ◌+◌, ◌*◌, ◌≤◌, ◌-◌, ◌^◌, min, sum_by, All, List, [], ◌∷◌, length, slice_get, Option, None, Some, option_map, Bool, true, false, ◌&&◌, Result, Ok, Err, ◌≡◌, ◌⊎◌, MatchResult, ℤ, ◌≤ℤ◌, int_lt, if◌then◌else◌}
 use Rattle.std.specs.List.{AllByRecursion, AllZip}
 use Rattle.std.specs.Ordering.{int_eq}
 use Rattle.base.specs.Lists.{joined}
@@ -16,10 +16,9 @@ use Rattle.chunk_files.specs.declared.refusal.ChunkRefusal.TheVariants.{Short}
 use Rattle.chunk_files.specs.ChunkReading.{segment_at}
 use Rattle.index_parts.specs.declared.chunk_place.ChunkPlace.{ChunkPlace}
 use Rattle.index_parts.specs.declared.index_series.IndexSeries.{IndexSeries}
-use Rattle.index_parts.specs.IndexFile.{IsIndex}
 use Rattle.index_v2.specs.declared.refusal.IndexRefusal.{IndexRefusal}
 use Rattle.index_v2.specs.declared.refusal.IndexRefusal.TheVariants as index
-use Rattle.index_v2.specs.Budget.{members_of, text_bytes, read_share, text_share}
+use Rattle.index_v2.specs.Sizes.{members_of}
 use Rattle.index_v2.specs.Held.{whole_file}
 use Rattle.index_v2.specs.Opening.{opened_at}
 use Rattle.index_v2.specs.WholeReading.{whole_at}
@@ -77,13 +76,7 @@ abbrev pub span_at : ChunkPlace → Option SampleSpan → Result ℕ ChunkCause
 span_at place None = Err NoSamples
 span_at place (Some span) = unless (int_eq span.first place.min && int_eq span.last place.max) TimesDiffer >> Ok span.count
 
--- What a call made of the samples that a chunk's data stands for, or the first refusal.
-abbrev pub MadeOfData : {X : Type 0} → ChunkPlace → List ℕ → (X → List Sample → Type 0) → Result X ChunkCause → Type 0
-MadeOfData place content Is result = MatchResult result
-    (λ made. (part : List Sample) × (samples_at place content ≡ Ok part) × Is made part)
-    (λ e. samples_at place content ≡ Err e)
-
--- The same of a chunk, unless memory ran out.
+-- What a call made of the samples of a chunk, or the first refusal, unless memory ran out.
 abbrev pub MadeOfChunk : {X : Type 0} → List (List ℕ) → ChunkPlace → (X → List Sample → Type 0) → Result X ChunkCause → Type 0
 MadeOfChunk segments place Is result = MatchResult result
     (λ made. (part : List Sample) × (chunk_at segments place ≡ Ok part) × Is made part)
@@ -100,18 +93,9 @@ chunk_bytes segments place = bytes_in (data_of segments place)
 abbrev pub series_bytes : List (List ℕ) → IndexSeries → ℕ
 series_bytes segments indexed = sum_by (chunk_bytes segments) indexed.chunks
 
--- No series has more than eight samples for each byte of its chunks, and these bytes together are no more than eight for each
--- byte of the segments.
-pub record AreFew (segments : List (List ℕ)) (indexed : List IndexSeries) (list : List Series) : Type 0 where
-  pub each : AllZip (λ (one : IndexSeries) (series : Series). length series.samples ≤ 8 * series_bytes segments one) indexed list
-  pub together : sum_by (series_bytes segments) indexed ≤ read_share * sum_by length segments
-
--- The chunks that the index names, each counted as often as it is named, have no more than eight bytes together for each byte of
--- the segments.
-pub record NamesFew (files : BlockFiles) : Type 0 where
-  pub indexed : List IndexSeries
-  pub index_is : IsIndex files.index indexed
-  pub together : sum_by (series_bytes files.segments) indexed ≤ read_share * sum_by length files.segments
+-- No series has more than eight samples for each byte of its chunks.
+abbrev pub AreFew : List (List ℕ) → List IndexSeries → List Series → Type 0
+AreFew segments indexed list = AllZip (λ (one : IndexSeries) (series : Series). length series.samples ≤ 8 * series_bytes segments one) indexed list
 
 -- ---- the chunks of the block
 
@@ -138,10 +122,6 @@ outside_of meta sample = if is_within meta.min_time meta.max_time sample then No
 -- the first such time
 abbrev pub first_time : Meta → List Sample → Option ℤ
 first_time meta samples = option_map (λ (r : ℕ × ℤ). r.1) (first_at (outside_of meta) samples)
-
--- the place lies within the block's times
-abbrev pub lies_within : Meta → ChunkPlace → Bool
-lies_within meta place = int_le meta.min_time place.min && int_lt place.max meta.max_time
 
 -- each sample lies within the times that the place tells
 abbrev pub LieBetween : ChunkPlace → List Sample → Type 0
@@ -197,12 +177,11 @@ refused_time r = OutsideRange (fitted r.0) r.1
 abbrev pub refused_order : ℕ × Unit {0} → CheckRefusal
 refused_order r = Repeated (fitted r.0)
 
--- An index of so many bytes lists so few series, which have so few labels, chunks and letters.
+-- An index of so many bytes lists so few series, which have so few labels and chunks.
 pub record ListsFew (index : List ℕ) (list : List IndexSeries) : Type 0 where
   pub series : 4 * length list ≤ length index
   pub each : All (λ (one : IndexSeries). 2 * length one.labels + 3 * length one.chunks ≤ length index) list
-  pub members : sum_by members_of list ≤ read_share * length index
-  pub texts : sum_by text_bytes list ≤ text_share * length index
+  pub members : sum_by members_of list ≤ length index
 
 -- the times of the series that were read, and then the order of their chunks
 unfoldable pub tested_at : Meta → List IndexSeries → List Series → Result (List Series) CheckRefusal

@@ -20,7 +20,7 @@ use Rattle.block_meta.specs.declared.block_files.BlockFiles.{BlockFiles}
 use Rattle.block_content.specs.declared.chunk_cause.ChunkCause.{ChunkCause}
 use Rattle.block_content.specs.declared.chunk_cause.ChunkCause.TheVariants.{File, Data, NoSamples, TimesDiffer}
 use Rattle.block_content.specs.declared.check_refusal.CheckRefusal.{CheckRefusal}
-use Rattle.block_content.specs.declared.check_refusal.CheckRefusal.TheVariants.{NoFile, BadMeta, UlidDiffers, NotLevelOne, SourcesNotSelf, Downsampled, TooLarge, BadIndex, EmptyBlock, BadChunk, OutsideRange, Repeated, NoMemory}
+use Rattle.block_content.specs.declared.check_refusal.CheckRefusal.TheVariants.{NoFile, BadMeta, UlidDiffers, NotLevelOne, SourcesNotSelf, Downsampled, TooLarge, BadIndex, EmptyBlock, BadChunk, OutsideRange, Repeated, NamesTooMuch, NoMemory}
 
 -- ---- a chunk
 
@@ -108,4 +108,5 @@ RefusesContent files SourcesNotSelf = ⊥
 RefusesContent files Downsampled = ⊥
 RefusesContent files (TooLarge key) = ⊥
 RefusesContent files EmptyBlock = ⊥
+RefusesContent files NamesTooMuch = ⊥
 RefusesContent files NoMemory = ⊥

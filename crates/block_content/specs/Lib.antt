@@ -15,6 +15,9 @@ pub use Rattle.index_v2.specs.WholeReading
 pub use Rattle.index_parts.specs.IndexFile
 pub mod Content
 pub mod ContentReading
+pub mod StoredPlaces
+pub mod Named
+pub mod ReadBytes
 pub mod ContentRefusals
 pub mod Checking
 pub mod CheckReading

@@ -1,3 +1,5 @@
+//! Why a check finds that a block is not to be shipped, in the order in which it looks.
+
 ghost use Rattle.std.specs.Prelude.{◌≡◌};
 ghost use Rattle.block_content.specs.declared.check_refusal.CheckRefusal.TheVariants.{NoMemory as WithoutMemory};
 
@@ -38,6 +40,9 @@ pub enum CheckRefusal {
     },
     /// The first series of which a chunk does not begin after the one before it ends.
     Repeated(u32),
+    /// The chunks and the texts of labels that the index names, each counted as often as it is named, have many times the bytes
+    /// of the block.
+    NamesTooMuch,
     NoMemory,
 }
 

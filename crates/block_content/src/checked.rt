@@ -1,3 +1,6 @@
+//! That a block of a shelf may be shipped, as a value: only a check makes one, so an upload has nothing more to ask. It
+//! is shipped under the external labels of the script's line, whatever its own meta has there.
+
 ghost use Rattle.block_content.specs.Checking.{HasPassed};
 
 use crate::shipping::shipped_files;

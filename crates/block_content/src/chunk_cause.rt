@@ -1,6 +1,8 @@
 ghost use Rattle.std.specs.Prelude.{◌≡◌};
 ghost use Rattle.block_content.specs.declared.chunk_cause.ChunkCause.TheVariants.{File as IsFile, Data as IsData};
+ghost use Rattle.xor_chunks.specs.declared.refusal.XorRefusal.TheVariants.{NoMemory as WithoutMemory};
 
+use base::NoMemory;
 use chunk_files::ChunkRefusal;
 use xor_chunks::XorRefusal;
 
@@ -29,5 +31,14 @@ impl From<XorRefusal> for ChunkCause {
 
     fn from(refusal: XorRefusal) -> Self {
         ChunkCause::Data(refusal)
+    }
+}
+
+/// Data for which memory is wanting is not read.
+impl From<NoMemory> for ChunkCause {
+    ghost from_gives = { λ _ e. e ≡ IsData WithoutMemory };
+
+    fn from(_: NoMemory) -> Self {
+        ChunkCause::Data(XorRefusal::NoMemory)
     }
 }

@@ -1,22 +1,42 @@
 //! The samples of one chunk.
-ghost use Rattle.std.specs.Prelude.{◌≡◌, ◌+◌, ◌*◌, ◌≤◌, ◌++◌, ◌&&◌, List, length, option_copied, IfOk};
+ghost use Rattle.std.specs.Prelude.{◌≡◌, ◌+◌, ◌*◌, ◌≤◌, ◌&&◌, length, sum_by, option_copied, IfOk};
+ghost use Rattle.std.specs.List.{AllByRecursion};
 ghost use Rattle.std.specs.Ordering.{int_eq};
-ghost use Rattle.label_sets.specs.declared.sample.Sample.{Sample};
+ghost use Rattle.base.specs.Grammar.{IsBytes};
 ghost use Rattle.xor_chunks.specs.Data.{with_samples};
 ghost use Rattle.base.specs.Reading.{Answers, Gives};
-ghost use Rattle.block_content.specs.ContentReading.{data_of, is_time, have_times_of, part_at, samples_at, chunk_at, chunk_bytes, span_at, refused_cause, LieBetween, MadeOfData, MadeOfChunk};
+ghost use Rattle.block_content.specs.Named.{counted};
+ghost use Rattle.block_content.specs.ContentReading.{data_of, is_time, have_times_of, part_at, samples_at, chunk_at, chunk_bytes, span_at, refused_cause};
 
 use crate::{CheckRefusal, ChunkCause};
 use base::members_behind;
 use chunk_files::{ChunkRefusal, read_chunk};
 use index_parts::ChunkPlace;
-use index_v2::spend;
 use label_sets::Sample;
 use wire_bytes::Blob;
-use xor_chunks::{SampleSpan, XorRefusal, append_stored, span_stored};
+use xor_chunks::{SampleSpan, XorRefusal, append_stored};
+
+fn length_of(segment: &[u8]) -> u64
+    ensures value { result ≡ length segment.now }
+    ensures bytes { IsBytes segment.now }
+{
+    segment.len() as u64
+}
+
+/// How many bytes segments have together. That they are bytes is what contracts learn of it.
+pub(crate) fn segment_bytes(segments: &[Blob]) -> u64
+    ensures value { result ≡ counted (sum_by length segments.now) }
+    ensures bytes { AllByRecursion IsBytes segments.now }
+{
+    let mut bytes = 0u64;
+    for segment in segments {
+        bytes = bytes.saturating_add(length_of(segment.bytes()));
+    }
+    bytes
+}
 
 /// The XOR data of the chunk at a place.
-fn data_of<'a>(segments: &'a [Blob], place: ChunkPlace) -> Result<&'a [u8], ChunkRefusal>
+pub(crate) fn data_of<'a>(segments: &'a [Blob], place: ChunkPlace) -> Result<&'a [u8], ChunkRefusal>
     ensures { Answers (λ content. content.now) result (data_of segments.now place) }
 {
     match segments.get(place.segment as usize) {
@@ -66,8 +86,6 @@ fn append_samples(
         (with_samples samples.items (samples_at place.now content.now)) }
     ensures few { IfOk result
         (λ all. length all.items ≤ length samples.items + 8 * length content.now) }
-    ensures between { IfOk result (λ all. (part : List Sample)
-        × (all.items ≡ samples.items ++ part) × LieBetween place.now part) }
 {
     let before = samples.len();
     let all = append_stored(samples, content)?;
@@ -83,7 +101,7 @@ fn has_times_of(place: &ChunkPlace, span: &SampleSpan) -> bool
 }
 
 /// Tests whether the span of samples is that of a chunk at a place, and gives how many they are.
-fn test_span(span: Option<SampleSpan>, place: &ChunkPlace) -> Result<u16, ChunkCause>
+pub(crate) fn test_span(span: Option<SampleSpan>, place: &ChunkPlace) -> Result<u16, ChunkCause>
     ensures { Answers (λ count. count) result (span_at place.now span) }
 {
     match span {
@@ -93,52 +111,20 @@ fn test_span(span: Option<SampleSpan>, place: &ChunkPlace) -> Result<u16, ChunkC
     }
 }
 
-/// Counts the samples that a chunk's data stands for, and keeps none.
-fn count_samples(content: &[u8], place: &ChunkPlace) -> Result<u16, ChunkCause>
-    ensures { MadeOfData place.now content.now
-        (λ count part. (count ≡ length part) × LieBetween place.now part) result }
-{
-    let span = span_stored(content)?;
-    test_span(span, place)
-}
-
-/// Reads the samples of the chunk at a place, behind others; with them comes what is left of a budget of bytes behind its data.
+/// Reads the samples of the chunk at a place, behind others.
 pub(crate) fn append_chunk(
     samples: Vec<Sample>,
     segments: &[Blob],
     place: ChunkPlace,
-    left: usize,
-) -> Result<(Vec<Sample>, usize), ChunkCause>
+) -> Result<Vec<Sample>, ChunkCause>
     ensures exact { Gives (ChunkCause.Data XorRefusal.NoMemory)
-        (λ read. read.0.items) result
+        (λ all. all.items) result
         (with_samples samples.items (chunk_at segments.now place)) }
-    ensures spent { IfOk result (λ read. read.1 + chunk_bytes segments.now place ≡ left) }
-    ensures few { IfOk result (λ read. length read.0.items
+    ensures few { IfOk result (λ all. length all.items
         ≤ length samples.items + 8 * chunk_bytes segments.now place) }
-    ensures between { IfOk result (λ read. (part : List Sample)
-        × (read.0.items ≡ samples.items ++ part) × LieBetween place part) }
 {
     let content = data_of(segments, place)?;
-    let rest = spend(left, content.len()).map_err(|_| XorRefusal::NoMemory)?;
-    let all = append_samples(samples, content, &place)?;
-    Ok((all, rest))
-}
-
-/// Counts the samples of the chunk at a place, and keeps none; with the count comes what is left of a budget of bytes behind
-/// its data.
-pub(crate) fn count_chunk(
-    segments: &[Blob],
-    place: ChunkPlace,
-    left: usize,
-) -> Result<(u16, usize), ChunkCause>
-    ensures counted { MadeOfChunk segments.now place
-        (λ counted part. (counted.0 ≡ length part) × LieBetween place part) result }
-    ensures spent { IfOk result (λ counted. counted.1 + chunk_bytes segments.now place ≡ left) }
-{
-    let content = data_of(segments, place)?;
-    let rest = spend(left, content.len()).map_err(|_| XorRefusal::NoMemory)?;
-    let count = count_samples(content, &place)?;
-    Ok((count, rest))
+    append_samples(samples, content, &place)
 }
 
 /// A chunk's cause, as the block's refusal.

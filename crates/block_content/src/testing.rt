@@ -1,19 +1,20 @@
 //! Testing what a block's files hold, without keeping it.
-ghost use Rattle.std.specs.Prelude.{◌≡◌, ◌⊎◌, ◌*◌, ◌≤◌, List, length, sum_by, Err, IfOk, IfErr};
+ghost use Rattle.std.specs.Prelude.{◌≡◌, ◌⊎◌, List, Err, IfOk, IfErr};
 ghost use Rattle.std.specs.List.{AllByRecursion};
 ghost use Rattle.std.specs.Result.{IsOkAnd};
 ghost use Rattle.base.specs.Grammar.{IsBytes};
 ghost use Rattle.label_sets.specs.declared.series.Series.{Series};
 ghost use Rattle.index_parts.specs.IndexFile.{IsIndex};
-ghost use Rattle.index_v2.specs.Budget.{read_share};
 ghost use Rattle.block_content.specs.Content.{IsContent};
 ghost use Rattle.block_content.specs.ContentRefusals.{RefusesContent};
 ghost use Rattle.block_content.specs.CheckReading.{IsTested};
-ghost use Rattle.block_content.specs.ContentReading.{ListsFew, series_bytes};
+ghost use Rattle.block_content.specs.ContentReading.{ListsFew};
 
 use crate::CheckRefusal;
-use crate::checking::{count_lent, test_found};
-use crate::content_reading::{budget_of, lent_repeated, read_lent};
+use crate::chunk_order::first_repeated;
+use crate::chunk_reading::segment_bytes;
+use crate::counting::{count_all, test_found};
+use crate::index_reading::read_index;
 use base::List;
 use block_meta::{BlockFiles, Meta};
 use index_v2::LentSeries;
@@ -27,19 +28,19 @@ fn test_files<'a>(
     segments: &[Blob],
 ) -> Result<List<LentSeries<'a>>, CheckRefusal>
     ensures exact { IsTested meta.now index.now segments.now result }
-    ensures few { IfOk result (λ indexed. ListsFew index.now indexed
-        × (sum_by (series_bytes segments.now) indexed ≤ read_share * sum_by length segments.now)) }
+    ensures few { IfOk result (ListsFew index.now) }
     ensures bytes { IsBytes index.now × AllByRecursion IsBytes segments.now }
 {
-    let budget = budget_of(segments);
-    let indexed = read_lent(alloc, index)?;
-    let counts = count_lent(alloc, meta, segments, indexed.members(), budget)?;
-    test_found(counts.outside, lent_repeated(indexed.members()))?;
+    let _bytes = segment_bytes(segments);
+    let indexed = read_index(alloc, index)?;
+    let counts = count_all(alloc, meta, segments, indexed.members())?;
+    test_found(counts.outside, first_repeated(indexed.members()))?;
     Ok(indexed)
 }
 
 /// Tests whether a block's files hold something that can be read, as `content` reads it, and hands back the series of its
-/// index, which lends the texts of their labels. The samples of one chunk are kept at a time.
+/// index, which lends the texts of their labels. The data at each place is read once, and the samples of one chunk are kept at a
+/// time.
 pub fn test_content(alloc: Global, files: &BlockFiles) -> Result<List<LentSeries<'_>>, CheckRefusal>
     ensures found { IfOk result (λ indexed. IsIndex files.now.index indexed
         × ((list : List Series) × IsContent files.now list)) }
@@ -49,9 +50,7 @@ pub fn test_content(alloc: Global, files: &BlockFiles) -> Result<List<LentSeries
         (λ refusal. (refusal ≡ CheckRefusal.NoMemory) ⊎ RefusesContent files.now refusal) }
     ensures refuses { (refusal : CheckRefusal) → RefusesContent files.now refusal
         → (result ≡ Err refusal) ⊎ (result ≡ Err CheckRefusal.NoMemory) }
-    ensures few { IfOk result (λ indexed. ListsFew files.now.index indexed
-        × (sum_by (series_bytes files.now.segments) indexed
-        ≤ read_share * sum_by length files.now.segments)) }
+    ensures few { IfOk result (ListsFew files.now.index) }
     ensures bytes { IsBytes files.now.index }
 {
     test_files(

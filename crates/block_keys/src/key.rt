@@ -1,3 +1,7 @@
+//! The objects of a block in its bucket, in the layout of Thanos: a folder that is named by the ULID has the meta, the
+//! index, the segments and the mark. Keys are in the order of their texts, so that what a page lists is in the order of
+//! keys.
+
 ghost use Rattle.std.specs.Prelude.{◌≡◌, ◌++◌, ◌↔◌, IfOk, IsErr, OnOk};
 ghost use Rattle.std.specs.Cmp.Lexicographic.{slice_cmp};
 ghost use Rattle.std.specs.Result.{result_ok};

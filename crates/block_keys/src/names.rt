@@ -1,3 +1,6 @@
+//! The names of a block's objects as texts, written and read byte for byte. A bucket may hold other names too, which
+//! are no keys, and whoever lists passes over them.
+
 ghost use Rattle.std.specs.Prelude.{◌≡◌, ◌++◌, ◌+◌, ◌%◌, ◌≤◌, IfOk, OnOk, codes};
 ghost use Rattle.std.specs.String.{string_bytes};
 ghost use Rattle.base.specs.Decimal.{digit_zero};

@@ -6,6 +6,7 @@ use Rattle.block_keys.specs.declared.key.Key.{Key}
 use Rattle.block_keys.specs.declared.key.Key.TheVariants.{Segment}
 use Rattle.block_keys.specs.KeyText.{key_text}
 use Rattle.bucket_core.specs.Asking.{Asks}
+use Rattle.bucket_core.specs.Told.{ShelfTold}
 use Rattle.block_loading.specs.Loading.{key_after, names_after}
 use Rattle.block_loading.specs.LoadReading.{AsksFile}
 use Rattle.block_loading.specs.declared.load_refusal.LoadRefusal.{LoadRefusal}
@@ -57,33 +58,33 @@ then_since None mid new first second one other = tt
 then_since (Some before) mid new first second one other =
     subst (λ (told : Option (List (List ℕ))). IfSome told (λ names. new ≡ Some (names ++ second))) one other ∙ ap (λ (names : List (List ℕ)). Some names) (append_assoc before first second)
 
-module _ {S : Type 0} (asked : S → Option (List (List ℕ))) where
+module _ {S : Type 0} (tells : S → ShelfTold) where
   -- without a call none is asked
-  pub asks_none : (s : S) → Asks asked s s []
-  asks_none s = none_since (asked s)
+  pub asks_none : (s : S) → Asks (tells s).asked (tells s).asked []
+  asks_none s = none_since (tells s).asked
 
   -- nor by a call that was not noted
-  pub asks_same : (old new : S) → asked new ≡ asked old → Asks asked old new []
-  asks_same old new same = same_since (asked old) (asked new) same
+  pub asks_same : (old new : S) → (tells new).asked ≡ (tells old).asked → Asks (tells old).asked (tells new).asked []
+  asks_same old new same = same_since (tells old).asked (tells new).asked same
 
-  pub asks_first : (s : S) (ulid before : ℕ) → Asks asked s s (names_after ulid before 0)
+  pub asks_first : (s : S) (ulid before : ℕ) → Asks (tells s).asked (tells s).asked (names_after ulid before 0)
   unfolding names_after
-  asks_first s ulid before = none_since (asked s)
+  asks_first s ulid before = none_since (tells s).asked
 
-  pub asks_then : (old mid new : S) (first second : List (List ℕ)) → Asks asked old mid first → Asks asked mid new second → Asks asked old new (first ++ second)
-  asks_then old mid new first second one other = then_since (asked old) (asked mid) (asked new) first second one other
+  pub asks_then : (old mid new : S) (first second : List (List ℕ)) → Asks (tells old).asked (tells mid).asked first → Asks (tells mid).asked (tells new).asked second → Asks (tells old).asked (tells new).asked (first ++ second)
+  asks_then old mid new first second one other = then_since (tells old).asked (tells mid).asked (tells new).asked first second one other
 
-  pub asks_as : (old new : S) (names others : List (List ℕ)) → Asks asked old new names → names ≡ others → Asks asked old new others
-  asks_as old new names others asks same = subst (Asks asked old new) same asks
+  pub asks_as : (old new : S) (names others : List (List ℕ)) → Asks (tells old).asked (tells new).asked names → names ≡ others → Asks (tells old).asked (tells new).asked others
+  asks_as old new names others asks same = subst (Asks (tells old).asked (tells new).asked) same asks
 
   -- ---- one file
 
   -- the call that answered it asked for it
-  pub file_asked : {X : Type 0} (old new : S) (key : Key) (x : X) → AsksFile {X = X} asked old new key (Ok x) → Asks asked old new (key_text key ∷ [])
+  pub file_asked : {X : Type 0} (old new : S) (key : Key) (x : X) → AsksFile {X = X} tells old new key (Ok x) → Asks (tells old).asked (tells new).asked (key_text key ∷ [])
   file_asked old new key x (inl asks) = asks
   file_asked old new key x (inr (asks, never)) = absurd cc
 
-  pub file_stopped : {X Y : Type 0} (old new : S) (key : Key) (e : LoadRefusal) (r : Result Y LoadRefusal) → IsErrAnd r (λ d. d ≡ e) → AsksFile {X = X} asked old new key (Err e) → AsksFile asked old new key r
+  pub file_stopped : {X Y : Type 0} (old new : S) (key : Key) (e : LoadRefusal) (r : Result Y LoadRefusal) → IsErrAnd r (λ d. d ≡ e) → AsksFile {X = X} tells old new key (Err e) → AsksFile tells old new key r
   file_stopped old new key e r is (inl asks) = inl asks
   file_stopped old new key e (Ok y) is (inr (asks, none)) = absurd is
   file_stopped old new key e (Err d) is (inr (asks, none)) = inr (asks, cc)

@@ -1,5 +1,5 @@
 -- Which files of a block a load asked for, as it goes on or stops.
-use Rattle.std.proofs.Common.{◌≡◌, ℕ, zero, suc, ◌+◌, ◌<◌, List, [], ◌∷◌, length, true, false, Option, Some, Result, Ok, Err, refl, sym, ap, subst, ◌∙◌, ◌⊎◌, inl, inr, arith}
+use Rattle.std.proofs.Common.{◌≡◌, ℕ, zero, suc, ◌+◌, ◌<◌, List, [], ◌∷◌, length, true, false, Some, Result, Ok, Err, refl, sym, ap, subst, ◌∙◌, ◌⊎◌, inl, inr, arith}
 use Rattle.std.specs.Prelude.{◌≤◌, IsTrue, IfOk, IfErr, IsErrAnd}
 use Rattle.base.proofs.Binds.{ok_is}
 use Rattle.block_keys.specs.declared.key.Key.TheVariants.{Meta, Index, Segment}
@@ -8,6 +8,7 @@ use Rattle.block_meta.specs.MetaFields.{MetaFields}
 use Rattle.index_parts.specs.declared.index_series.IndexSeries.{IndexSeries}
 use Rattle.bucket_core.specs.Contents.{Contents}
 use Rattle.bucket_core.specs.Asking.{Asks}
+use Rattle.bucket_core.specs.Told.{ShelfTold}
 use Rattle.block_loading.specs.Loading.{HasSegments, last_segment, ReachesSegment, Reaches, StopsAt, key_after, names_after}
 use Rattle.block_loading.specs.LoadReading.{IsBrokenOff, WasBrokenOff, IfRefused, AsksFile, AsksInOrder, AsksSegments, was_fault, meta_at, index_in}
 use Rattle.block_loading.specs.declared.load_refusal.LoadRefusal.{LoadRefusal}
@@ -80,10 +81,10 @@ module _ (told : Contents) (ulid : ℕ) where
 
 -- ---- what a load asked for
 
-module _ {S X : Type 0} (files : S → Option Contents) (asked : S → Option (List (List ℕ))) (faults : S → ℕ) (segments : X → List (List ℕ)) (ulid : ℕ) (r : Result X LoadRefusal) where
+module _ {S X : Type 0} (tells : S → ShelfTold) (segments : X → List (List ℕ)) (ulid : ℕ) (r : Result X LoadRefusal) where
   -- it stopped at the meta
-  pub asked_meta : {Y : Type 0} (old new : S) (e : LoadRefusal) → IsErrAnd r (λ d. d ≡ e) → AsksFile {X = Y} asked old new (Meta ulid) (Err e) → ((told : Contents) → files old ≡ Some told → IsBrokenOff e ⊎ (meta_at told ulid ≡ Err e)) → IfRefused (StopsAt ulid 1) e
-      → AsksInOrder files asked faults old new ulid (StopsAt ulid) segments r
+  pub asked_meta : {Y : Type 0} (old new : S) (e : LoadRefusal) → IsErrAnd r (λ d. d ≡ e) → AsksFile {X = Y} tells old new (Meta ulid) (Err e) → ((told : Contents) → (tells old).files ≡ Some told → IsBrokenOff e ⊎ (meta_at told ulid ≡ Err e)) → IfRefused (StopsAt ulid 1) e
+      → AsksInOrder tells old new ulid (StopsAt ulid) segments r
   unfolding names_after
   asked_meta old new e is (inl asks) read said = record {
     count = 1;
@@ -92,7 +93,7 @@ module _ {S X : Type 0} (files : S → Option Contents) (asked : S → Option (L
     all = λ told h next. off_on r e is (off_or e (meta_at told ulid) next.1.0 (read told h) (meta_again told ulid next.1.0 next.1.1));
     whole = no_value _ r e is;
     stopped = said_on (StopsAt ulid 1) r e is said;
-    failed = λ fault. (0, refl, (old, asks_first asked old ulid 0, refl));
+    failed = λ fault. (0, refl, (old, asks_first tells old ulid 0, refl));
   }
   asked_meta {Y} old new e is (inr (asks, none)) read said = record {
     count = 0;
@@ -104,14 +105,14 @@ module _ {S X : Type 0} (files : S → Option Contents) (asked : S → Option (L
     failed = λ fault. absurd (no_fault e (err_is {A = Y} e NoMemory none) (fault_on r e is fault));
   }
 
-  module _ (old mid : S) (first : Asks asked old mid (key_text (Meta ulid) ∷ [])) (calm : faults mid ≡ faults old) (meta : MetaFields) (has : (told : Contents) → files old ≡ Some told → meta_at told ulid ≡ Ok meta) where
+  module _ (old mid : S) (first : Asks (tells old).asked (tells mid).asked (key_text (Meta ulid) ∷ [])) (calm : (tells mid).faults ≡ (tells old).faults) (meta : MetaFields) (has : (told : Contents) → (tells old).files ≡ Some told → meta_at told ulid ≡ Ok meta) where
     -- it stopped at the index
-    pub asked_index : {Y : Type 0} (new : S) (e : LoadRefusal) → IsErrAnd r (λ d. d ≡ e) → AsksFile {X = Y} asked mid new (Index ulid) (Err e) → ((told : Contents) → files old ≡ Some told → IsBrokenOff e ⊎ (index_in told ulid ≡ Err e)) → IfRefused (StopsAt ulid 2) e
-        → AsksInOrder files asked faults old new ulid (StopsAt ulid) segments r
+    pub asked_index : {Y : Type 0} (new : S) (e : LoadRefusal) → IsErrAnd r (λ d. d ≡ e) → AsksFile {X = Y} tells mid new (Index ulid) (Err e) → ((told : Contents) → (tells old).files ≡ Some told → IsBrokenOff e ⊎ (index_in told ulid ≡ Err e)) → IfRefused (StopsAt ulid 2) e
+        → AsksInOrder tells old new ulid (StopsAt ulid) segments r
     unfolding names_after
     asked_index new e is (inl asks) read said = record {
       count = 2;
-      names = asks_then asked old mid new _ _ first asks;
+      names = asks_then tells old mid new _ _ first asks;
       reached = λ told h place lt. reached_two told ulid meta (has told h) place lt;
       all = λ told h next. off_on r e is (off_or e (index_in told ulid) (next.1.index, next.1.indexed) (read told h) (index_again told ulid next.1.index next.1.indexed next.1.index_is));
       whole = no_value _ r e is;
@@ -120,7 +121,7 @@ module _ {S X : Type 0} (files : S → Option Contents) (asked : S → Option (L
     }
     asked_index {Y} new e is (inr (asks, none)) read said = record {
       count = 1;
-      names = asks_then asked old mid new _ _ first asks;
+      names = asks_then tells old mid new _ _ first asks;
       reached = λ told h place lt. reached_first told ulid place lt;
       all = λ told h next. off_on r e is (inl cc);
       whole = no_value _ r e is;
@@ -129,12 +130,12 @@ module _ {S X : Type 0} (files : S → Option Contents) (asked : S → Option (L
     }
 
     -- it went on to the segments
-    pub asked_segments : {Y : Type 0} (index : List ℕ) (indexed : List IndexSeries) (last : ℕ) (next new : S) (rs : Result Y LoadRefusal) → Asks asked mid next (key_text (Index ulid) ∷ []) → ((told : Contents) → files old ≡ Some told → index_in told ulid ≡ Ok (index, indexed)) → last ≡ last_segment indexed → files next ≡ files old → faults next ≡ faults old
-        → (third : AsksSegments files asked faults next new ulid last rs) → (WasBrokenOff rs → WasBrokenOff r) → IfOk r (λ x. 2 + third.count ≡ 2 + length (segments x)) → (IfErr rs (IfRefused (StopsAt ulid (2 + third.count))) → IfErr r (IfRefused (StopsAt ulid (2 + third.count)))) → (IsTrue (was_fault r) → IsTrue (was_fault rs)) → AsksInOrder files asked faults old new ulid (StopsAt ulid) segments r
+    pub asked_segments : {Y : Type 0} (index : List ℕ) (indexed : List IndexSeries) (last : ℕ) (next new : S) (rs : Result Y LoadRefusal) → Asks (tells mid).asked (tells next).asked (key_text (Index ulid) ∷ []) → ((told : Contents) → (tells old).files ≡ Some told → index_in told ulid ≡ Ok (index, indexed)) → last ≡ last_segment indexed → (tells next).files ≡ (tells old).files → (tells next).faults ≡ (tells old).faults
+        → (third : AsksSegments tells next new ulid last rs) → (WasBrokenOff rs → WasBrokenOff r) → IfOk r (λ x. 2 + third.count ≡ 2 + length (segments x)) → (IfErr rs (IfRefused (StopsAt ulid (2 + third.count))) → IfErr r (IfRefused (StopsAt ulid (2 + third.count)))) → (IsTrue (was_fault r) → IsTrue (was_fault rs)) → AsksInOrder tells old new ulid (StopsAt ulid) segments r
     unfolding names_after
     asked_segments index indexed last next new rs second is counted same still third leads whole says faulty = record {
       count = 2 + third.count;
-      names = asks_as asked old new _ _ (asks_then asked old next new _ _ (asks_then asked old mid next _ _ first second) third.names) (names_all ulid third.count);
+      names = asks_as tells old new _ _ (asks_then tells old next new _ _ (asks_then tells old mid next _ _ first second) third.names) (names_all ulid third.count);
       reached = λ told h place lt. reached_all told ulid meta (has told h) index indexed (is told h) third.count last counted third.within (third.reached told (same ∙ h)) place lt;
       all = λ told h more.
           let at : Reaches told ulid (Segment ulid (third.count + 1)) = subst (Reaches told ulid) (segment_key ulid third.count) more in
@@ -149,7 +150,7 @@ module _ {S X : Type 0} (files : S → Option Contents) (asked : S → Option (L
       failed = λ fault.
           let one = third.failed (faulty fault) in
           let counted = one.1 in
-          (2 + one.0, omega (arith, counted), (one.2.0, asks_as asked old one.2.0 _ _ (asks_then asked old next one.2.0 _ _ (asks_then asked old mid next _ _ first second) one.2.1) (names_all ulid one.0), one.2.2 ∙ still));
+          (2 + one.0, omega (arith, counted), (one.2.0, asks_as tells old one.2.0 _ _ (asks_then tells old next one.2.0 _ _ (asks_then tells old mid next _ _ first second) one.2.1) (names_all ulid one.0), one.2.2 ∙ still));
     }
 
 -- ---- what is handed on
@@ -158,8 +159,8 @@ whole_as : {Y : Type 0} (others : Y → List (List ℕ)) (some : List (List ℕ)
 whole_as others some count (Ok y) same whole = whole ∙ ap (λ (xs : List (List ℕ)). 2 + length xs) (sym same)
 whole_as others some count (Err e) same whole = tt
 
-module _ {S X Y : Type 0} (files : S → Option Contents) (asked : S → Option (List (List ℕ))) (faults : S → ℕ) (some : X → List (List ℕ)) (others : Y → List (List ℕ)) (old new : S) (ulid : ℕ) (Stops Others : ℕ → CheckRefusal → Type 0) where
-  pub asked_on : (r : Result Y LoadRefusal) (e : LoadRefusal) → IsErrAnd r (λ d. d ≡ e) → ((count : ℕ) (refusal : CheckRefusal) → Stops count refusal → Others count refusal) → AsksInOrder files asked faults old new ulid Stops some (Err e) → AsksInOrder files asked faults old new ulid Others others r
+module _ {S X Y : Type 0} (tells : S → ShelfTold) (some : X → List (List ℕ)) (others : Y → List (List ℕ)) (old new : S) (ulid : ℕ) (Stops Others : ℕ → CheckRefusal → Type 0) where
+  pub asked_on : (r : Result Y LoadRefusal) (e : LoadRefusal) → IsErrAnd r (λ d. d ≡ e) → ((count : ℕ) (refusal : CheckRefusal) → Stops count refusal → Others count refusal) → AsksInOrder tells old new ulid Stops some (Err e) → AsksInOrder tells old new ulid Others others r
   asked_on r e is leads order = record {
     count = order.count;
     names = order.names;
@@ -171,7 +172,7 @@ module _ {S X Y : Type 0} (files : S → Option Contents) (asked : S → Option 
   }
 
   -- what was answered was not broken off
-  pub asked_whole : (x : X) (r : Result Y LoadRefusal) → IfOk r (λ y. others y ≡ some x) → ((count : ℕ) → count ≡ 2 + length (some x) → IfErr r (IfRefused (Others count))) → was_fault r ≡ false → AsksInOrder files asked faults old new ulid Stops some (Ok x) → AsksInOrder files asked faults old new ulid Others others r
+  pub asked_whole : (x : X) (r : Result Y LoadRefusal) → IfOk r (λ y. others y ≡ some x) → ((count : ℕ) → count ≡ 2 + length (some x) → IfErr r (IfRefused (Others count))) → was_fault r ≡ false → AsksInOrder tells old new ulid Stops some (Ok x) → AsksInOrder tells old new ulid Others others r
   asked_whole x r same says none order = record {
     count = order.count;
     names = order.names;

@@ -1,5 +1,5 @@
 -- Which segments of a block were asked for, while they are read.
-use Rattle.std.proofs.Common.{◌≡◌, ℕ, zero, suc, ◌+◌, ◌<◌, List, [], ◌∷◌, ◌++◌, length, take, get_or, true, false, Option, Some, Result, Ok, Err, refl, sym, ap, subst, ◌∙◌, ◌⊎◌, inl, inr, arith}
+use Rattle.std.proofs.Common.{◌≡◌, ℕ, zero, suc, ◌+◌, ◌<◌, List, [], ◌∷◌, ◌++◌, length, take, get_or, true, false, Some, Result, Ok, Err, refl, sym, ap, subst, ◌∙◌, ◌⊎◌, inl, inr, arith}
 use Rattle.std.specs.Prelude.{◌≤◌, slice_get, IfOk, IfErr, IsErrAnd}
 use Rattle.std.proofs.lemmas.List.{append-nil, length-take-le}
 use Rattle.std.proofs.lemmas.Option.{slice_get-get_or}
@@ -8,6 +8,7 @@ use Rattle.block_keys.specs.declared.key.Key.TheVariants.{Segment}
 use Rattle.block_keys.specs.KeyText.{key_text}
 use Rattle.bucket_core.specs.Contents.{Contents}
 use Rattle.bucket_core.specs.Asking.{Asks}
+use Rattle.bucket_core.specs.Told.{ShelfTold}
 use Rattle.block_loading.specs.Loading.{HasFile, HasSegments, StopsAt, names_after}
 use Rattle.block_loading.specs.LoadReading.{IsBrokenOff, IfRefused, RefusesFile, AsksFile, AsksSegments, was_fault, file_at}
 use Rattle.block_loading.specs.declared.load_refusal.LoadRefusal.{LoadRefusal}
@@ -56,25 +57,25 @@ module _ (told : Contents) (ulid : ℕ) where
 
 -- ---- in the loop
 
-module _ {S : Type 0} (asked : S → Option (List (List ℕ))) (ulid : ℕ) where
-  pub asked_one : (old mid new : S) (number : ℕ) → Asks asked old mid (names_after ulid 2 number) → Asks asked mid new (key_text (Segment ulid (number + 1)) ∷ []) → Asks asked old new (names_after ulid 2 (number + 1))
-  asked_one old mid new number far asks = asks_as asked old new _ _ (asks_then asked old mid new _ _ far asks) (sym (segment_more ulid number))
+module _ {S : Type 0} (tells : S → ShelfTold) (ulid : ℕ) where
+  pub asked_one : (old mid new : S) (number : ℕ) → Asks (tells old).asked (tells mid).asked (names_after ulid 2 number) → Asks (tells mid).asked (tells new).asked (key_text (Segment ulid (number + 1)) ∷ []) → Asks (tells old).asked (tells new).asked (names_after ulid 2 (number + 1))
+  asked_one old mid new number far asks = asks_as tells old new _ _ (asks_then tells old mid new _ _ far asks) (sym (segment_more ulid number))
 
-  same_names : (old mid new : S) (number : ℕ) → Asks asked old mid (names_after ulid 2 number) → Asks asked mid new [] → Asks asked old new (names_after ulid 2 number)
-  same_names old mid new number far asks = asks_as asked old new _ _ (asks_then asked old mid new _ _ far asks) (append-nil (names_after ulid 2 number))
+  same_names : (old mid new : S) (number : ℕ) → Asks (tells old).asked (tells mid).asked (names_after ulid 2 number) → Asks (tells mid).asked (tells new).asked [] → Asks (tells old).asked (tells new).asked (names_after ulid 2 number)
+  same_names old mid new number far asks = asks_as tells old new _ _ (asks_then tells old mid new _ _ far asks) (append-nil (names_after ulid 2 number))
 
 all_whole : {X P : Type 0} (r : Result X LoadRefusal) → P → IfOk r (λ x. P)
 all_whole (Ok x) p = p
 all_whole (Err e) p = tt
 
-module _ {S X : Type 0} (files : S → Option Contents) (asked : S → Option (List (List ℕ))) (faults : S → ℕ) (ulid many : ℕ) (r : Result X LoadRefusal) (old mid : S) (number : ℕ) (front : List (List ℕ)) (far : Asks asked old mid (names_after ulid 2 number)) (stood : (told : Contents) → files old ≡ Some told → HasSegments told ulid front) (so_many : length front ≡ number) (calm : faults mid ≡ faults old) where
+module _ {S X : Type 0} (tells : S → ShelfTold) (ulid many : ℕ) (r : Result X LoadRefusal) (old mid : S) (number : ℕ) (front : List (List ℕ)) (far : Asks (tells old).asked (tells mid).asked (names_after ulid 2 number)) (stood : (told : Contents) → (tells old).files ≡ Some told → HasSegments told ulid front) (so_many : length front ≡ number) (calm : (tells mid).faults ≡ (tells old).faults) where
   module _ (lt : number < many) where
     -- the next one was not read
-    pub segment_stopped : {Y : Type 0} (new : S) (e : LoadRefusal) → IsErrAnd r (λ d. d ≡ e) → AsksFile {X = Y} asked mid new (Segment ulid (number + 1)) (Err e) → ((told : Contents) → files old ≡ Some told → IsBrokenOff e ⊎ (file_at told (Segment ulid (number + 1)) ≡ Err e)) → IfRefused (RefusesFile (Segment ulid (number + 1))) e
-        → AsksSegments files asked faults old new ulid many r
+    pub segment_stopped : {Y : Type 0} (new : S) (e : LoadRefusal) → IsErrAnd r (λ d. d ≡ e) → AsksFile {X = Y} tells mid new (Segment ulid (number + 1)) (Err e) → ((told : Contents) → (tells old).files ≡ Some told → IsBrokenOff e ⊎ (file_at told (Segment ulid (number + 1)) ≡ Err e)) → IfRefused (RefusesFile (Segment ulid (number + 1))) e
+        → AsksSegments tells old new ulid many r
     segment_stopped new e is (inl asks) read said = record {
       count = number + 1;
-      names = asked_one asked ulid old mid new number far asks;
+      names = asked_one tells ulid old mid new number far asks;
       within = omega (arith, lt);
       reached = λ told h place before. stand_front told ulid front place (stood told h) (omega (arith, before, so_many));
       all = λ told h before are full. inr (off_on r e is (stands told ulid before number e are full (read told h)));
@@ -84,7 +85,7 @@ module _ {S X : Type 0} (files : S → Option Contents) (asked : S → Option (L
     }
     segment_stopped {Y} new e is (inr (asks, none)) read said = record {
       count = number;
-      names = same_names asked ulid old mid new number far asks;
+      names = same_names tells ulid old mid new number far asks;
       within = omega (arith, lt);
       reached = λ told h place before. stand_front told ulid front place (stood told h) (omega (arith, before, so_many));
       all = λ told h before are full. inr (off_on r e is (inl cc));
@@ -94,10 +95,10 @@ module _ {S X : Type 0} (files : S → Option Contents) (asked : S → Option (L
     }
 
     -- the next one was read and not kept
-    pub segment_unkept : (new : S) → IsErrAnd r (λ d. d ≡ NoMemory) → Asks asked mid new (key_text (Segment ulid (number + 1)) ∷ []) → AsksSegments files asked faults old new ulid many r
+    pub segment_unkept : (new : S) → IsErrAnd r (λ d. d ≡ NoMemory) → Asks (tells mid).asked (tells new).asked (key_text (Segment ulid (number + 1)) ∷ []) → AsksSegments tells old new ulid many r
     segment_unkept new is asks = record {
       count = number + 1;
-      names = asked_one asked ulid old mid new number far asks;
+      names = asked_one tells ulid old mid new number far asks;
       within = omega (arith, lt);
       reached = λ told h place before. stand_front told ulid front place (stood told h) (omega (arith, before, so_many));
       all = λ told h before are full. inr (off_on r NoMemory is (inl refl));
@@ -107,7 +108,7 @@ module _ {S X : Type 0} (files : S → Option Contents) (asked : S → Option (L
     }
 
   -- all were read
-  pub segments_ended : many ≡ number → IfErr r (IfRefused (StopsAt ulid (2 + number))) → was_fault r ≡ false → AsksSegments files asked faults old mid ulid many r
+  pub segments_ended : many ≡ number → IfErr r (IfRefused (StopsAt ulid (2 + number))) → was_fault r ≡ false → AsksSegments tells old mid ulid many r
   segments_ended end said none = record {
     count = number;
     names = far;

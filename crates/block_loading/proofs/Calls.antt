@@ -1,13 +1,12 @@
 -- What the calls say: of loading, and of loading with a check behind it.
-use Rattle.std.proofs.Common.{◌≡◌, ℕ, List, Result, Ok, Err, refl, sym, ap, subst, ◌∙◌, ◌⊎◌, inl, inr}
+use Rattle.std.proofs.Common.{◌≡◌, ℕ, Result, Ok, Err, refl, sym, ap, subst, ◌∙◌, ◌⊎◌, inl, inr}
 use Rattle.std.specs.Prelude.{IsOkAnd, IsErrAnd}
 use Rattle.base.proofs.Binds.{ok_is, err_is}
-use Rattle.index_parts.specs.declared.index_series.IndexSeries.{IndexSeries}
 use Rattle.block_meta.specs.declared.block_files.BlockFiles.{BlockFiles}
 use Rattle.block_content.specs.Checking.{RefusesBlock}
 use Rattle.block_content.specs.declared.checked.Checked.{Checked}
 use Rattle.block_content.specs.declared.check_refusal.CheckRefusal.{CheckRefusal}
-use Rattle.block_content.specs.declared.check_refusal.CheckRefusal.TheVariants.{NoFile, BadMeta, UlidDiffers, NotLevelOne, SourcesNotSelf, Downsampled, TooLarge, BadIndex, EmptyBlock, BadChunk, OutsideRange, Repeated, NoMemory}
+use Rattle.block_content.specs.declared.check_refusal.CheckRefusal.TheVariants.{NoFile, BadMeta, UlidDiffers, NotLevelOne, SourcesNotSelf, Downsampled, TooLarge, BadIndex, EmptyBlock, BadChunk, OutsideRange, Repeated, NamesTooMuch, NoMemory}
 use Rattle.bucket_core.specs.Contents.{Contents}
 use Rattle.block_loading.specs.Loading.{IsLoaded, RefusesLoad, RefusesOnShelf}
 use Rattle.block_loading.specs.LoadReading.{IsBrokenOff, WasBrokenOff, Loads, refused_block, BlockParts, parts_of, load_at}
@@ -44,9 +43,8 @@ module _ {X : Type 0} (view : X → BlockFiles) (told : Contents) (ulid : ℕ) w
   says_refuses (Err e) refusal (inl off) is = inr (broken e off)
   says_refuses (Err e) refusal (inr refused) is = inl (ap (λ (x : LoadRefusal). Err x) (err_is {A = BlockParts} e (Refused refusal) (sym refused ∙ load_refuses told ulid refusal is)))
 
--- what was read, but for the series of the index
-abbrev pub files_read : BlockFiles × List IndexSeries → BlockFiles
-files_read x = x.0
+abbrev pub files_read : BlockFiles → BlockFiles
+files_read files = files
 
 pub refused_on : {Y : Type 0} (told : Contents) (ulid : ℕ) (r : Result Y LoadRefusal) (e : LoadRefusal) (refusal : CheckRefusal) → IsErrAnd r (λ d. d ≡ e)
     → Loads (λ x. parts_of (files_read x)) (Err e) (load_at told ulid) → r ≡ Err (Refused refusal) → RefusesLoad told ulid refusal
@@ -69,6 +67,7 @@ block_told EmptyBlock refusal h = (cc, λ n. absurd cc)
 block_told (BadChunk series chunk cause) refusal h = (cc, λ n. absurd cc)
 block_told (OutsideRange series time) refusal h = (cc, λ n. absurd cc)
 block_told (Repeated series) refusal h = (cc, λ n. absurd cc)
+block_told NamesTooMuch refusal h = (cc, λ n. absurd cc)
 block_told NoMemory refusal h = absurd cc
 
 -- a refusal of a block is said of it
@@ -85,6 +84,7 @@ block_kept ulid files EmptyBlock is = refl
 block_kept ulid files (BadChunk series chunk cause) is = refl
 block_kept ulid files (OutsideRange series time) is = refl
 block_kept ulid files (Repeated series) is = refl
+block_kept ulid files NamesTooMuch is = refl
 block_kept ulid files NoMemory is = absurd is
 
 -- what was answered was not broken off

@@ -1,5 +1,5 @@
 -- What the end of a check says of a block that was loaded.
-use Rattle.std.proofs.Common.{◌≡◌, ℕ, Option, Result, Ok, Err, false, List, length, refl, sym, ap, subst, ◌∙◌, ◌⊎◌, inl, inr}
+use Rattle.std.proofs.Common.{◌≡◌, ℕ, Result, Ok, Err, false, List, length, refl, sym, ap, subst, ◌∙◌, ◌⊎◌, inl, inr}
 use Rattle.std.specs.Prelude.{IfOk, IfErr}
 use Rattle.std.specs.Result.{IsOkAnd}
 use Rattle.std.proofs.lemmas.Result.{IfOk-weaker}
@@ -7,13 +7,13 @@ use Rattle.base.proofs.Binds.{err_is}
 use Rattle.label_sets.specs.declared.series.Series.{Series}
 use Rattle.label_sets.specs.Counts.{sample_count}
 use Rattle.block_meta.specs.declared.block_files.BlockFiles.{BlockFiles}
-use Rattle.block_content.specs.ContentReading.{NamesFew}
 use Rattle.block_content.specs.Checked.{checked_files, checked_series, checked_samples}
 use Rattle.block_content.specs.Checking.{Passes, HasPassed, RefusesBlock}
 use Rattle.block_content.specs.Verdict.{IsVerdict}
 use Rattle.block_content.specs.declared.checked.Checked.{Checked}
 use Rattle.block_content.specs.declared.check_refusal.CheckRefusal.{CheckRefusal}
 use Rattle.bucket_core.specs.Contents.{Contents}
+use Rattle.bucket_core.specs.Told.{ShelfTold}
 use Rattle.block_loading.specs.Loading.{IsLoaded, RefusesOnShelf}
 use Rattle.block_loading.specs.LoadReading.{IfRefused, KeepsShelf, WasBrokenOff, was_fault, refused_block}
 use Rattle.block_loading.specs.LoadedChecks.{EndsCheck, end_of}
@@ -42,13 +42,6 @@ module _ (ulid : ℕ) (files : BlockFiles) where
 
   pub ended_segments : (r : Result Checked LoadRefusal) → EndsCheck ulid files r → IfOk r (λ checked. (checked_files checked).segments ≡ files.segments)
   ended_segments r ends = ended_ok (λ checked. (checked_files checked).segments ≡ files.segments) (λ checked same passed. ap (λ (f : BlockFiles). f.segments) same) r ends
-
-  few_of : (v : Result Checked CheckRefusal) → IsVerdict ulid files v → IfOk (end_of v) (λ checked. NamesFew (checked_files checked))
-  few_of (Ok checked) is = subst NamesFew (sym is.found.0) is.few
-  few_of (Err refusal) is = tt
-
-  pub ended_few : (r : Result Checked LoadRefusal) → EndsCheck ulid files r → IfOk r (λ checked. NamesFew (checked_files checked))
-  ended_few r (v, is, told) = subst (λ (e : Result Checked LoadRefusal). IfOk e (λ checked. NamesFew (checked_files checked))) (sym told) (few_of v is)
 
   passes_of : (list : List Series) (v : Result Checked CheckRefusal) → IsVerdict ulid files v → Passes ulid files list
       → IsOkAnd (end_of v) (λ checked. (checked_files checked ≡ files) × (checked_series checked ≡ length list) × (checked_samples checked ≡ sample_count list)) ⊎ WasBrokenOff (end_of v)
@@ -97,5 +90,5 @@ pub ended_moved : (own ulid : ℕ) (files : BlockFiles) (r : Result Checked Load
 ended_moved own ulid files r same ends = subst (λ (n : ℕ). EndsCheck n files r) same ends
 
 -- the check leaves the shelf as the load did
-pub checked_here : {S : Type 0} (shelf : S → Option Contents) (faults : S → ℕ) (old new : S) (ulid : ℕ) (files : BlockFiles) (r : Result Checked LoadRefusal) → EndsCheck ulid files r → KeepsShelf shelf faults old new false → KeepsShelf shelf faults old new (was_fault r)
-checked_here shelf faults old new ulid files r ends kept = kept_as shelf faults old new false (was_fault r) (sym (ended_calm ulid files r ends)) kept
+pub checked_here : {S : Type 0} (tells : S → ShelfTold) (old new : S) (ulid : ℕ) (files : BlockFiles) (r : Result Checked LoadRefusal) → EndsCheck ulid files r → KeepsShelf tells old new false → KeepsShelf tells old new (was_fault r)
+checked_here tells old new ulid files r ends kept = kept_as tells old new false (was_fault r) (sym (ended_calm ulid files r ends)) kept

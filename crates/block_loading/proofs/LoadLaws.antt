@@ -15,7 +15,7 @@ use Rattle.index_v2.specs.declared.refusal.IndexRefusal.TheVariants as index
 use Rattle.block_meta.specs.declared.block_files.BlockFiles.{BlockFiles}
 use Rattle.block_content.specs.ContentReading.{index_at, refused_index}
 use Rattle.block_content.specs.declared.check_refusal.CheckRefusal.{CheckRefusal}
-use Rattle.block_content.specs.declared.check_refusal.CheckRefusal.TheVariants.{NoFile, BadMeta, UlidDiffers, NotLevelOne, SourcesNotSelf, Downsampled, TooLarge, BadIndex, EmptyBlock, BadChunk, OutsideRange, Repeated, NoMemory}
+use Rattle.block_content.specs.declared.check_refusal.CheckRefusal.TheVariants.{NoFile, BadMeta, UlidDiffers, NotLevelOne, SourcesNotSelf, Downsampled, TooLarge, BadIndex, EmptyBlock, BadChunk, OutsideRange, Repeated, NamesTooMuch, NoMemory}
 use Rattle.bucket_core.specs.Contents.{Contents}
 use Rattle.block_loading.specs.Loading.{HasFile, HasMeta, HasIndex, HasSegments, last_segment, IsLoaded, ReachesSegment, Reaches, RefusesLoad}
 use Rattle.block_loading.specs.LoadReading.{refused_block, refused_meta, file_at, meta_at, index_in, segments_at, BlockParts, parts_of, load_at}
@@ -235,4 +235,5 @@ module _ (told : Contents) (ulid : ℕ) where
   load_refuses (BadChunk series chunk cause) never = absurd never
   load_refuses (OutsideRange series time) never = absurd never
   load_refuses (Repeated series) never = absurd never
+  load_refuses NamesTooMuch never = absurd never
   load_refuses NoMemory never = absurd never

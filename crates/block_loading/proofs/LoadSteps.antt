@@ -14,13 +14,18 @@ use Rattle.block_content.specs.declared.check_refusal.CheckRefusal.{CheckRefusal
 use Rattle.block_content.specs.declared.check_refusal.CheckRefusal.TheVariants as check
 use Rattle.bucket_core.specs.Contents.{Contents}
 use Rattle.block_loading.specs.Loading.{last_segment}
-use Rattle.block_loading.specs.LoadReading.{IsBrokenOff, Loads, refused_block, refused_meta, file_at, meta_at, index_in, segments_at, load_at}
+use Rattle.block_loading.specs.LoadReading.{IsBrokenOff, Loads, LoadsIndex, refused_block, refused_meta, file_at, meta_at, index_in, segments_at, load_at}
 use Rattle.block_loading.specs.declared.load_refusal.LoadRefusal.{LoadRefusal}
 
 -- a call that stopped with a refusal of another
 pub stops : {X Y : Type 0} (view : X → Y) (read : Result Y LoadRefusal) (r : Result X LoadRefusal) (e : LoadRefusal) → IsErrAnd r (λ d. d ≡ e) → IsBrokenOff e ⊎ (read ≡ Err e) → Loads view r read
 stops view read (Ok x) e is why = absurd is
 stops view read (Err d) e is why = subst (λ (c : LoadRefusal). IsBrokenOff c ⊎ (read ≡ Err c)) (sym is) why
+
+-- the same of the index
+pub stops_index : (read : Result (List ℕ × List IndexSeries) LoadRefusal) (r : Result (List ℕ × ℕ) LoadRefusal) (e : LoadRefusal) → IsErrAnd r (λ d. d ≡ e) → IsBrokenOff e ⊎ (read ≡ Err e) → LoadsIndex r read
+stops_index read (Ok x) e is why = absurd is
+stops_index read (Err d) e is why = subst (λ (c : LoadRefusal). IsBrokenOff c ⊎ (read ≡ Err c)) (sym is) why
 
 -- where one reading follows another, a stop of the first is one of the whole
 pub stops_first : {A B : Type 0} (first : Result A LoadRefusal) (whole : Result B LoadRefusal) (e : LoadRefusal) → (first ≡ Err e → whole ≡ Err e) → IsBrokenOff e ⊎ (first ≡ Err e) → IsBrokenOff e ⊎ (whole ≡ Err e)

@@ -62,7 +62,13 @@ block_calm check.EmptyBlock = refl
 block_calm (check.BadChunk series chunk cause) = refl
 block_calm (check.OutsideRange series time) = refl
 block_calm (check.Repeated series) = refl
+block_calm check.NamesTooMuch = refl
 block_calm check.NoMemory = refl
+
+-- a refusal of the block is no fault
+pub calm_on : {X : Type 0} (r : Result X LoadRefusal) (said : LoadRefusal) (e : CheckRefusal) → IsErrAnd r (λ d. d ≡ said) → said ≡ refused_block e → was_fault r ≡ false
+calm_on (Ok x) said e is why = absurd is
+calm_on (Err d) said e is why = ap is_fault (is ∙ why) ∙ block_calm e
 
 -- the file that was asked for last is refused
 last_file : (ulid before count : ℕ) (key : Key) → count ≡ before + 1 → key ≡ key_after ulid before → (refusal : CheckRefusal) → RefusesFile key refusal → StopsAt ulid count refusal
@@ -78,6 +84,7 @@ last_file ulid before count key counted is check.EmptyBlock said = absurd said
 last_file ulid before count key counted is (check.BadChunk series chunk cause) said = absurd said
 last_file ulid before count key counted is (check.OutsideRange series time) said = absurd said
 last_file ulid before count key counted is (check.Repeated series) said = absurd said
+last_file ulid before count key counted is check.NamesTooMuch said = absurd said
 last_file ulid before count key counted is check.NoMemory said = absurd said
 
 pub file_last : (ulid before count : ℕ) (key : Key) → count ≡ before + 1 → key ≡ key_after ulid before → (e : LoadRefusal) → IfRefused (RefusesFile key) e → IfRefused (StopsAt ulid count) e

@@ -17,6 +17,7 @@ use Rattle.bucket_core.specs.Causes.{Rose}
 use Rattle.bucket_core.specs.Contents.{Contents}
 use Rattle.bucket_core.specs.Asking.{Asks}
 use Rattle.bucket_core.specs.Files.{file_limit}
+use Rattle.bucket_core.specs.Told.{ShelfTold}
 use Rattle.block_loading.specs.Loading.{last_segment, HasSegments, Reaches, StopsAt, key_after, names_after, names_read}
 use Rattle.block_loading.specs.declared.load_refusal.LoadRefusal.{LoadRefusal}
 use Rattle.block_loading.specs.declared.load_refusal.LoadRefusal.TheVariants.{Refused, ShelfFault, NoMemory}
@@ -33,6 +34,10 @@ WasBrokenOff {X} result = (result ≡ Err NoMemory) ⊎ (result ≡ Err ShelfFau
 -- What a call returned, seen by view, is what the reading function gives, unless it was broken off.
 abbrev pub Loads : {X Y : Type 0} → (X → Y) → Result X LoadRefusal → Result Y LoadRefusal → Type 0
 Loads {X} {Y} view result read = MatchResult result (λ x. read ≡ Ok (view x)) (λ e. IsBrokenOff e ⊎ (read ≡ Err e))
+
+-- The same of the index of a block, whose series are not kept.
+abbrev pub LoadsIndex : Result (List ℕ × ℕ) LoadRefusal → Result (List ℕ × List IndexSeries) LoadRefusal → Type 0
+LoadsIndex result read = MatchResult result (λ x. (indexed : List IndexSeries) → index_at x.0 ≡ Ok indexed → read ≡ Ok (x.0, indexed)) (λ e. IsBrokenOff e ⊎ (read ≡ Err e))
 
 -- what is said of the block, if it was refused and loading not broken off
 abbrev pub IfRefused : (CheckRefusal → Type 0) → LoadRefusal → Type 0
@@ -54,6 +59,7 @@ RefusesFile key check.EmptyBlock = ⊥
 RefusesFile key (check.BadChunk series chunk cause) = ⊥
 RefusesFile key (check.OutsideRange series time) = ⊥
 RefusesFile key (check.Repeated series) = ⊥
+RefusesFile key check.NamesTooMuch = ⊥
 RefusesFile key check.NoMemory = ⊥
 
 abbrev pub is_fault : LoadRefusal → Bool
@@ -68,43 +74,45 @@ was_fault {X} (Err e) = is_fault e
 
 -- A call read files of a shelf, and ended with a fault or not. It leaves the files as they were. The count of faults rises
 -- where the call ended with a fault, and there alone.
-pub record KeepsShelf {S : Type 0} (files : S → Option Contents) (faults : S → ℕ) (old new : S) (fault : Bool) : Type 0 where
-  pub same : files new ≡ files old
-  pub later : faults old ≤ faults new
-  pub cause : IsTrue fault → Rose (faults old) (faults new)
-  pub calm : fault ≡ false → faults new ≡ faults old
+pub record KeepsShelf {S : Type 0} (tells : S → ShelfTold) (old new : S) (fault : Bool) : Type 0 where
+  pub same : (tells new).files ≡ (tells old).files
+  pub later : (tells old).faults ≤ (tells new).faults
+  pub cause : IsTrue fault → Rose (tells old).faults (tells new).faults
+  pub calm : fault ≡ false → (tells new).faults ≡ (tells old).faults
 
 -- A call asked for the file under a key, if there was memory for its name.
-abbrev pub AsksFile : {S X : Type 0} → (S → Option (List (List ℕ))) → S → S → Key → Result X LoadRefusal → Type 0
-AsksFile {S} {X} asked old new key result = Asks asked old new (key_text key ∷ []) ⊎ (Asks asked old new [] × (result ≡ Err NoMemory))
+abbrev pub AsksFile : {S X : Type 0} → (S → ShelfTold) → S → S → Key → Result X LoadRefusal → Type 0
+AsksFile {S} {X} tells old new key result =
+    Asks (tells old).asked (tells new).asked (key_text key ∷ []) ⊎ (Asks (tells old).asked (tells new).asked [] × (result ≡ Err NoMemory))
 
 -- Before the last one of so many files was asked for, no reading had failed.
-abbrev pub FailsAtLast : {S : Type 0} → (S → Option (List (List ℕ))) → (S → ℕ) → S → (ℕ → List (List ℕ)) → ℕ → Type 0
-FailsAtLast {S} asked faults old names count = (before : ℕ) × (count ≡ before + 1) × ((mid : S) × Asks asked old mid (names before) × (faults mid ≡ faults old))
+abbrev pub FailsAtLast : {S : Type 0} → (S → ShelfTold) → S → (ℕ → List (List ℕ)) → ℕ → Type 0
+FailsAtLast {S} tells old names count =
+    (before : ℕ) × (count ≡ before + 1) × ((mid : S) × Asks (tells old).asked (tells mid).asked (names before) × ((tells mid).faults ≡ (tells old).faults))
 
 -- A call asked for so many files of a block, each once, in the order of reading. Where the files are told, each of these is
 -- reached. If one more is reached, then the call was broken off. Where the block was refused, this is where that may be, and a
 -- fault is that of the last file.
-pub record AsksInOrder {S X : Type 0} (files : S → Option Contents) (asked : S → Option (List (List ℕ))) (faults : S → ℕ) (old new : S) (ulid : ℕ) (Stops : ℕ → CheckRefusal → Type 0) (segments : X → List (List ℕ)) (result : Result X LoadRefusal) : Type 0 where
+pub record AsksInOrder {S X : Type 0} (tells : S → ShelfTold) (old new : S) (ulid : ℕ) (Stops : ℕ → CheckRefusal → Type 0) (segments : X → List (List ℕ)) (result : Result X LoadRefusal) : Type 0 where
   pub count : ℕ
-  pub names : Asks asked old new (names_read ulid count)
-  pub reached : (told : Contents) → files old ≡ Some told → (place : ℕ) → place < count → Reaches told ulid (key_after ulid place)
-  pub all : (told : Contents) → files old ≡ Some told → Reaches told ulid (key_after ulid count) → WasBrokenOff result
+  pub names : Asks (tells old).asked (tells new).asked (names_read ulid count)
+  pub reached : (told : Contents) → (tells old).files ≡ Some told → (place : ℕ) → place < count → Reaches told ulid (key_after ulid place)
+  pub all : (told : Contents) → (tells old).files ≡ Some told → Reaches told ulid (key_after ulid count) → WasBrokenOff result
   pub whole : IfOk result (λ x. count ≡ 2 + length (segments x))
   pub stopped : IfErr result (IfRefused (Stops count))
-  pub failed : IsTrue (was_fault result) → FailsAtLast asked faults old (names_read ulid) count
+  pub failed : IsTrue (was_fault result) → FailsAtLast tells old (names_read ulid) count
 
 -- A call asked for segments of a block, of which there are so many, each once and from the first on. Where the files are told,
 -- all before one that it asked for stand. If all that it asked for stand, then these are all, or the call was broken off.
-pub record AsksSegments {S X : Type 0} (files : S → Option Contents) (asked : S → Option (List (List ℕ))) (faults : S → ℕ) (old new : S) (ulid many : ℕ) (result : Result X LoadRefusal) : Type 0 where
+pub record AsksSegments {S X : Type 0} (tells : S → ShelfTold) (old new : S) (ulid many : ℕ) (result : Result X LoadRefusal) : Type 0 where
   pub count : ℕ
-  pub names : Asks asked old new (names_after ulid 2 count)
+  pub names : Asks (tells old).asked (tells new).asked (names_after ulid 2 count)
   pub within : count ≤ many
-  pub reached : (told : Contents) → files old ≡ Some told → (place : ℕ) → place < count → (before : List (List ℕ)) × HasSegments told ulid before × (length before ≡ place)
-  pub all : (told : Contents) → files old ≡ Some told → (before : List (List ℕ)) → HasSegments told ulid before → length before ≡ count → (count ≡ many) ⊎ WasBrokenOff result
+  pub reached : (told : Contents) → (tells old).files ≡ Some told → (place : ℕ) → place < count → (before : List (List ℕ)) × HasSegments told ulid before × (length before ≡ place)
+  pub all : (told : Contents) → (tells old).files ≡ Some told → (before : List (List ℕ)) → HasSegments told ulid before → length before ≡ count → (count ≡ many) ⊎ WasBrokenOff result
   pub whole : IfOk result (λ x. count ≡ many)
   pub stopped : IfErr result (IfRefused (StopsAt ulid (2 + count)))
-  pub failed : IsTrue (was_fault result) → FailsAtLast asked faults old (names_after ulid 2) count
+  pub failed : IsTrue (was_fault result) → FailsAtLast tells old (names_after ulid 2) count
 
 -- ---- reading
 

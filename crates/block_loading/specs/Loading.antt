@@ -20,7 +20,7 @@ use Rattle.block_meta.specs.declared.block_files.BlockFiles.{BlockFiles}
 use Rattle.block_content.specs.ContentReading.{index_at}
 use Rattle.block_content.specs.Checking.{Passes, RefusesBlock}
 use Rattle.block_content.specs.declared.check_refusal.CheckRefusal.{CheckRefusal}
-use Rattle.block_content.specs.declared.check_refusal.CheckRefusal.TheVariants.{NoFile, BadMeta, UlidDiffers, NotLevelOne, SourcesNotSelf, Downsampled, TooLarge, BadIndex, EmptyBlock, BadChunk, OutsideRange, Repeated, NoMemory}
+use Rattle.block_content.specs.declared.check_refusal.CheckRefusal.TheVariants.{NoFile, BadMeta, UlidDiffers, NotLevelOne, SourcesNotSelf, Downsampled, TooLarge, BadIndex, EmptyBlock, BadChunk, OutsideRange, Repeated, NamesTooMuch, NoMemory}
 use Rattle.bucket_core.specs.Contents.{Contents}
 use Rattle.bucket_core.specs.Files.{file_limit}
 
@@ -75,9 +75,13 @@ greatest (number ∷ numbers) = max number (greatest numbers)
 unfoldable pub last_segment : List IndexSeries → ℕ
 last_segment indexed = greatest (map file_number (flat_map (λ one. one.chunks) indexed))
 
+-- This is the greatest number of a file that the series of an index name.
+abbrev pub NamesLast : List ℕ → ℕ → Type 0
+NamesLast index last = (indexed : List IndexSeries) × (index_at index ≡ Ok indexed) × (last ≡ last_segment indexed)
+
 -- The block has as many segments as its index names.
 abbrev pub AreNamed : BlockFiles → Type 0
-AreNamed files = (indexed : List IndexSeries) × (index_at files.index ≡ Ok indexed) × (length files.segments ≡ last_segment indexed)
+AreNamed files = NamesLast files.index (length files.segments)
 
 -- ---- the block
 
@@ -125,6 +129,7 @@ RefusesLoad told ulid EmptyBlock = ⊥
 RefusesLoad told ulid (BadChunk series chunk cause) = ⊥
 RefusesLoad told ulid (OutsideRange series time) = ⊥
 RefusesLoad told ulid (Repeated series) = ⊥
+RefusesLoad told ulid NamesTooMuch = ⊥
 RefusesLoad told ulid NoMemory = ⊥
 
 -- ---- the order of reading
@@ -179,6 +184,7 @@ StopsAt ulid count EmptyBlock = ⊥
 StopsAt ulid count (BadChunk series chunk cause) = ⊥
 StopsAt ulid count (OutsideRange series time) = ⊥
 StopsAt ulid count (Repeated series) = ⊥
+StopsAt ulid count NamesTooMuch = ⊥
 StopsAt ulid count NoMemory = ⊥
 
 -- A check that asked for so many files may be refused for this: these are all files of a block, and it does not pass.

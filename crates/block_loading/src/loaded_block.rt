@@ -1,26 +1,18 @@
 //! Blocks that were loaded from a shelf and are to be checked, which needs no shelf.
-ghost use Rattle.std.specs.Prelude.{◌≡◌, Ok};
-ghost use Rattle.base.specs.Grammar.{IsBytes};
-ghost use Rattle.block_content.specs.ContentReading.{index_at};
-
 use crate::LoadRefusal;
 use crate::loading::read_block;
 use crate::reading::refused_block;
-use block_content::{Checked, check_indexed};
+use block_content::{Checked, check};
 use block_meta::BlockFiles;
 use bucket_core::Shelf;
-use index_v2::IndexSeriesList;
 use std::alloc::Global;
 use ulid_core::Ulid;
 
-/// The files of a block that were loaded from a shelf, with the series of its index, to be checked under its ULID.
+/// The files of a block that were loaded from a shelf, to be checked under its ULID.
 #[derive(Drop)]
 pub struct LoadedBlock {
     ulid: Ulid,
     pub(crate) files: BlockFiles,
-    indexed: IndexSeriesList,
-    ghost bytes: { IsBytes files.index },
-    ghost read: { index_at files.index ≡ Ok indexed },
 }
 
 impl LoadedBlock {
@@ -33,7 +25,7 @@ impl LoadedBlock {
     ghost use Rattle.block_loading.specs.LoadReading.{AsksInOrder, KeepsShelf, WasBrokenOff, was_fault};
     ghost use Rattle.block_loading.specs.LoadedChecks.{EndsCheck, loaded_files, loaded_ulid};
 
-    /// Loads a block's files from a shelf, as `load` does, with the series of its index.
+    /// Loads a block's files from a shelf, as `load` does.
     pub fn load<F: Shelf>(
         alloc: Global,
         shelf: &mut F,
@@ -42,17 +34,17 @@ impl LoadedBlock {
         ensures ulid { IfOk result (λ block. loaded_ulid block ≡ ulid) }
 
         // Where the shelf tells its files, they are the block's, and a block that the shelf has is loaded.
-        ensures found { (told : Contents) → F.files shelf.old ≡ Some told
+        ensures found { (told : Contents) → (F.told shelf.old).files ≡ Some told
             → IfOk result (λ block. IsLoaded told ulid (loaded_files block)) }
-        ensures only { (told : Contents) → F.files shelf.old ≡ Some told
+        ensures only { (told : Contents) → (F.told shelf.old).files ≡ Some told
             → (files : BlockFiles) → IsLoaded told ulid files
             → IsOkAnd result (λ block. loaded_files block ≡ files) ⊎ WasBrokenOff result }
 
         // A refusal is the first in the order of reading.
-        ensures refused { (told : Contents) → F.files shelf.old ≡ Some told
+        ensures refused { (told : Contents) → (F.told shelf.old).files ≡ Some told
             → (refusal : CheckRefusal) → result ≡ Err (LoadRefusal.Refused refusal)
             → RefusesLoad told ulid refusal }
-        ensures refuses { (told : Contents) → F.files shelf.old ≡ Some told
+        ensures refuses { (told : Contents) → (F.told shelf.old).files ≡ Some told
             → (refusal : CheckRefusal) → RefusesLoad told ulid refusal
             → (result ≡ Err (LoadRefusal.Refused refusal)) ⊎ WasBrokenOff result }
 
@@ -62,30 +54,22 @@ impl LoadedBlock {
 
         // Files of the block are asked for, and no others, each once and in the order of reading. A refusal or a
         // fault is that of the last one.
-        ensures asks { AsksInOrder F.files F.asked F.faults shelf.old shelf.new
+        ensures asks { AsksInOrder F.told shelf.old shelf.new
             ulid (StopsAt ulid) (λ block. (loaded_files block).segments) result }
 
         // The files stay as they are, and the shelf's count rises just where a fault is answered.
-        ensures kept { KeepsShelf F.files F.faults shelf.old shelf.new (was_fault result) }
+        ensures kept { KeepsShelf F.told shelf.old shelf.new (was_fault result) }
     {
-        let (files, indexed) = read_block(alloc, shelf, ulid)?;
-        Ok(LoadedBlock {
-            ulid,
-            files,
-            indexed,
-        })
+        let files = read_block(alloc, shelf, ulid)?;
+        Ok(LoadedBlock { ulid, files })
     }
 
     /// Tests whether the block may be shipped under its ULID.
     pub fn check(self, alloc: Global) -> Result<Checked, LoadRefusal>
         ensures { EndsCheck (loaded_ulid self) (loaded_files self) result }
     {
-        let LoadedBlock {
-            ulid,
-            files,
-            indexed,
-        } = self;
-        match check_indexed(alloc, ulid, files, &indexed) {
+        let LoadedBlock { ulid, files } = self;
+        match check(alloc, ulid, files) {
             Ok(checked) => Ok(checked),
             Err(refusal) => Err(refused_block(refusal)),
         }

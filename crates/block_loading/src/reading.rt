@@ -1,16 +1,17 @@
 //! The files of a block, each as it is read from a shelf.
-ghost use Rattle.std.specs.Prelude.{◌≡◌, ◌+◌, ◌≤◌, ℕ, Option, Some, Ok, Err, List, All, IfOk, IfErr, length, map, max};
+ghost use Rattle.std.specs.Prelude.{◌≡◌, ◌⊎◌, ◌+◌, ◌≤◌, ℕ, Option, Some, Ok, Err, List, All, IfOk, IfErr, length, map, max};
 ghost use Rattle.std.specs.List.{flat_map};
-ghost use Rattle.base.specs.Grammar.{IsBytes};
 ghost use Rattle.block_keys.specs.Keys.{IsLawfulKey, segment_limit};
 ghost use Rattle.block_keys.specs.declared.key.Key.{Key};
 ghost use Rattle.block_meta.specs.MetaFields.{fields_of};
-ghost use Rattle.block_content.specs.ContentReading.{index_at, ListsFew};
+ghost use Rattle.base.specs.Reading.{refused_as};
+ghost use Rattle.block_content.specs.ContentReading.{index_at, refused_index};
+ghost use Rattle.block_content.specs.declared.check_refusal.CheckRefusal.{CheckRefusal};
 ghost use Rattle.bucket_core.specs.Causes.{file_failed};
 ghost use Rattle.bucket_core.specs.Contents.{Contents};
 ghost use Rattle.bucket_core.specs.Files.{file_limit, IsWithinLimit, ShowsFile};
-ghost use Rattle.block_loading.specs.Loading.{file_number, greatest, last_segment, IsOfText, StopsAt};
-ghost use Rattle.block_loading.specs.LoadReading.{Loads, KeepsShelf, AsksFile, AsksSegments, IfRefused, RefusesFile, was_fault, refused_block, refused_meta, file_in, file_at, meta_at, index_in, segments_at};
+ghost use Rattle.block_loading.specs.Loading.{file_number, greatest, last_segment, IsOfText, NamesLast, StopsAt};
+ghost use Rattle.block_loading.specs.LoadReading.{Loads, LoadsIndex, KeepsShelf, AsksFile, AsksSegments, IfRefused, RefusesFile, was_fault, refused_block, refused_meta, file_in, file_at, meta_at, index_in, segments_at};
 
 use crate::LoadRefusal;
 use block_content::{CheckRefusal, read_index};
@@ -18,7 +19,7 @@ use block_keys::{Key, SEGMENT_LIMIT};
 use block_meta::{BlobList, Meta, MetaRefusal};
 use bucket_core::{Shelf, ShelfAnswer};
 use index_parts::ChunkPlace;
-use index_v2::{IndexSeries, IndexSeriesList};
+use index_v2::LentSeries;
 use std::alloc::Global;
 use ulid_core::Ulid;
 use wire_bytes::Blob;
@@ -45,12 +46,12 @@ fn file_of(key: &Key, answer: ShelfAnswer) -> Result<Blob, LoadRefusal>
 /// Reads the file under a key.
 fn read_file<F: Shelf>(alloc: Global, shelf: &mut F, key: &Key) -> Result<Blob, LoadRefusal>
     requires { IsLawfulKey key.now }
-    ensures read { (told : Contents) → F.files shelf.old ≡ Some told
+    ensures read { (told : Contents) → (F.told shelf.old).files ≡ Some told
         → Loads (λ bytes. bytes) result (file_at told key.now) }
     ensures within { IfOk result (λ bytes. length bytes ≤ file_limit) }
     ensures stopped { IfErr result (IfRefused (RefusesFile key.now)) }
-    ensures asks { AsksFile F.asked shelf.old shelf.new key.now result }
-    ensures kept { KeepsShelf F.files F.faults shelf.old shelf.new (was_fault result) }
+    ensures asks { AsksFile F.told shelf.old shelf.new key.now result }
+    ensures kept { KeepsShelf F.told shelf.old shelf.new (was_fault result) }
 {
     let name = key.text(alloc)?;
     let answer = shelf.read(name.as_str());
@@ -83,12 +84,12 @@ pub(crate) fn read_meta<F: Shelf>(
     shelf: &mut F,
     ulid: Ulid,
 ) -> Result<Meta, LoadRefusal>
-    ensures read { (told : Contents) → F.files shelf.old ≡ Some told
+    ensures read { (told : Contents) → (F.told shelf.old).files ≡ Some told
         → Loads fields_of result (meta_at told ulid) }
     ensures within { IfOk result (λ meta. IsOfText (fields_of meta)) }
     ensures stopped { IfErr result (IfRefused (StopsAt ulid 1)) }
-    ensures asks { AsksFile F.asked shelf.old shelf.new (Key.Meta ulid) result }
-    ensures kept { KeepsShelf F.files F.faults shelf.old shelf.new (was_fault result) }
+    ensures asks { AsksFile F.told shelf.old shelf.new (Key.Meta ulid) result }
+    ensures kept { KeepsShelf F.told shelf.old shelf.new (was_fault result) }
 {
     let text = read_file(alloc, shelf, &Key::Meta(ulid))?;
     match Meta::read(alloc, text.bytes()) {
@@ -97,27 +98,38 @@ pub(crate) fn read_meta<F: Shelf>(
     }
 }
 
-/// Reads the index of a block, and its series.
-pub(crate) fn read_series<F: Shelf>(
+/// The greatest number of a file that the series of an index name.
+fn last_named(alloc: Global, index: &[u8]) -> Result<u32, LoadRefusal>
+    ensures named { IfOk result (NamesLast index.now) }
+    ensures most { IfOk result (λ last. last ≤ segment_limit) }
+    ensures stopped { IfErr result (λ said. (refusal : CheckRefusal) × (said ≡ refused_block refusal)
+        × ((refusal ≡ CheckRefusal.NoMemory)
+        ⊎ (refused_as refused_index (index_at index.now) ≡ Err refusal))) }
+{
+    match read_index(alloc, index) {
+        Ok(indexed) => Ok(last_segment(indexed.members())),
+        Err(refusal) => Err(refused_block(refusal)),
+    }
+}
+
+/// Reads the index of a block, with the greatest number of a file that its series name.
+pub(crate) fn read_named<F: Shelf>(
     alloc: Global,
     shelf: &mut F,
     ulid: Ulid,
-) -> Result<(Blob, IndexSeriesList), LoadRefusal>
-    ensures read { (told : Contents) → F.files shelf.old ≡ Some told
-        → Loads (λ x. (x.0, x.1)) result (index_in told ulid) }
-    ensures bytes { IfOk result (λ x. IsBytes x.0) }
-    ensures indexed { IfOk result (λ x. index_at x.0 ≡ Ok x.1) }
-    ensures few { IfOk result (λ x. ListsFew x.0 x.1) }
+) -> Result<(Blob, u32), LoadRefusal>
+    ensures read { (told : Contents) → (F.told shelf.old).files ≡ Some told
+        → LoadsIndex result (index_in told ulid) }
+    ensures named { IfOk result (λ x. NamesLast x.0 x.1) }
+    ensures most { IfOk result (λ x. x.1 ≤ segment_limit) }
     ensures within { IfOk result (λ x. length x.0 ≤ file_limit) }
     ensures stopped { IfErr result (IfRefused (StopsAt ulid 2)) }
-    ensures asks { AsksFile F.asked shelf.old shelf.new (Key.Index ulid) result }
-    ensures kept { KeepsShelf F.files F.faults shelf.old shelf.new (was_fault result) }
+    ensures asks { AsksFile F.told shelf.old shelf.new (Key.Index ulid) result }
+    ensures kept { KeepsShelf F.told shelf.old shelf.new (was_fault result) }
 {
     let index = read_file(alloc, shelf, &Key::Index(ulid))?;
-    match read_index(alloc, index.bytes()) {
-        Ok(indexed) => Ok((index, indexed)),
-        Err(refusal) => Err(refused_block(refusal)),
-    }
+    let last = last_named(alloc, index.bytes())?;
+    Ok((index, last))
 }
 
 /// The number of the file in which a chunk stands.
@@ -139,13 +151,13 @@ fn last_of(chunks: &[ChunkPlace], before: u32) -> u32
 }
 
 /// The greatest number of a file that series name.
-pub(crate) fn last_segment(indexed: &[IndexSeries]) -> u32
+fn last_segment(indexed: &[LentSeries<'_>]) -> u32
     ensures value { result ≡ last_segment indexed.now }
     ensures most { result ≤ segment_limit }
 {
     let mut last = 0;
     for one in indexed {
-        last = last_of(one.chunks.members(), last);
+        last = last_of(one.chunks(), last);
     }
     last
 }
@@ -158,13 +170,13 @@ pub(crate) fn read_segments<F: Shelf>(
     last: u32,
 ) -> Result<BlobList, LoadRefusal>
     requires { last ≤ segment_limit }
-    ensures read { (told : Contents) → F.files shelf.old ≡ Some told
+    ensures read { (told : Contents) → (F.told shelf.old).files ≡ Some told
         → Loads (λ segments. segments) result (segments_at told ulid 1 last) }
     ensures many { IfOk result (λ segments. length segments ≡ last) }
     ensures within { IfOk result (All (λ (segment : List ℕ). length segment ≤ file_limit)) }
-    ensures asks { AsksSegments F.files F.asked F.faults shelf.old shelf.new
+    ensures asks { AsksSegments F.told shelf.old shelf.new
         ulid last result }
-    ensures kept { KeepsShelf F.files F.faults shelf.old shelf.new (was_fault result) }
+    ensures kept { KeepsShelf F.told shelf.old shelf.new (was_fault result) }
 {
     let mut segments = BlobList::new(alloc);
     for number in 0..last {

@@ -1,5 +1,5 @@
 -- Chunks fall into runs in one way.
-use Rattle.std.proofs.Common.{◌≡◌, ◌≢◌, suc, Bool, true, false, List, [], ◌∷◌, map, refl, sym, ap, subst, ◌∙◌, arith, inl, inr, ◌⊎◌, ℤ}
+use Rattle.std.proofs.Common.{◌≡◌, suc, Bool, true, false, List, [], ◌∷◌, map, refl, sym, ap, subst, ◌∙◌, arith, inl, inr, ◌⊎◌, ℤ}
 use Rattle.std.specs.Prelude.{Any, All, Contains, not, int_le, ◌≤ℤ◌, ◌<ℤ◌}
 use Rattle.std.specs.List.{AllByRecursion, AllPairs, filter}
 use Rattle.std.proofs.lemmas.Int.{ints}

@@ -13,6 +13,7 @@ use Rattle.block_writing.specs.Writing.{plan_fields}
 use Rattle.block_writing.specs.Files.{IsListed}
 use Rattle.block_writing.specs.WrittenMeta.{meta_with, IsWritten}
 use Rattle.block_writing.specs.Built.{IsPutAs, IsBuilt}
+use Rattle.block_content.specs.Named.{NamesFew}
 use Rattle.block_content.specs.Checking.{IsOwn, Passes, RefusesBlock}
 use Rattle.block_content.specs.declared.check_refusal.CheckRefusal.TheVariants.{EmptyBlock}
 use Rattle.block_merging.specs.PutContent.{AreSeriesOf, IsFirstLevel}
@@ -37,11 +38,12 @@ none_listed [] [] are none = refl
 none_listed [] (s ∷ listed) are none = absurd are
 none_listed (p ∷ puts) listed are none = absurd cc
 
-pub written_passes : (put : Put) (files : BlockFiles) (list : List Series) → IsWritten put files → IsFirstLevel put.plan → put.series ≢ [] → AreSeriesOf put.series list → Passes put.plan.ulid files list
-written_passes put files list is own some are = record {
+pub written_passes : (put : Put) (files : BlockFiles) (list : List Series) → IsWritten put files → IsFirstLevel put.plan → put.series ≢ [] → AreSeriesOf put.series list → NamesFew files → Passes put.plan.ulid files list
+written_passes put files list is own some are few = record {
   own = own_meta put files is own;
   content = written_holds put files list is are;
   some = λ none. some (none_of put.series list are none);
+  few = few;
 }
 
 pub written_empty : (put : Put) (files : BlockFiles) → IsWritten put files → IsFirstLevel put.plan → put.series ≡ [] → RefusesBlock put.plan.ulid files EmptyBlock
@@ -57,11 +59,11 @@ none_built [] puts each none = refl
 none_built (s ∷ list) [] each none = absurd each
 none_built (s ∷ list) (p ∷ puts) each none = absurd cc
 
-pub built_passes : (plan : BlockPlan) (series : List Series) (files : BlockFiles) → IsBuilt plan series files → IsFirstLevel (plan_fields plan) → series ≢ [] → Passes plan.ulid files series
-built_passes plan series files is own some =
+pub built_passes : (plan : BlockPlan) (series : List Series) (files : BlockFiles) → IsBuilt plan series files → IsFirstLevel (plan_fields plan) → series ≢ [] → NamesFew files → Passes plan.ulid files series
+built_passes plan series files is own some few =
     let are = built_series series is.put.series is.put_is.series_are in
     subst (λ (p : PlanFields). Passes p.ulid files series) is.put_is.plan_is
-    (written_passes is.put files series is.block_is (subst First (sym is.put_is.plan_is) own) (λ none. some (none_built series is.put.series are none)) are)
+    (written_passes is.put files series is.block_is (subst First (sym is.put_is.plan_is) own) (λ none. some (none_built series is.put.series are none)) are few)
 
 none_put : (puts : List PutSeries) → AllZip IsPutAs [] puts → puts ≡ []
 none_put [] each = refl

@@ -1,17 +1,20 @@
 -- A chunk that is carried, and samples that are read of chunks.
-use Rattle.std.proofs.Common.{◌≡◌, ℕ, ◌+◌, ◌<◌, List, [], ◌∷◌, ◌++◌, length, map, take, get_or, Result, Ok, Err, refl, sym, ap, subst, ◌∙◌, arith, append-nil}
+use Rattle.std.proofs.Common.{◌≡◌, ℕ, ◌+◌, ◌<◌, List, [], ◌∷◌, ◌++◌, length, map, take, get_or, Result, Ok, Err, refl, sym, ap, subst, ◌∙◌, ◌⊎◌, inl, inr, arith, append-nil}
 use Rattle.std.specs.Prelude.{OnOk}
-use Rattle.std.specs.List.{AllZip}
+use Rattle.base.proofs.Binds.{err_is}
+use Rattle.std.specs.List.{AllByRecursion, AllZip}
+use Rattle.base.specs.Ordered.{in_order}
 use Rattle.std.proofs.lemmas.List.{map-append, take_more}
 use Rattle.label_sets.specs.declared.label.Label.{Label}
 use Rattle.label_sets.specs.declared.sample.Sample.{Sample}
 use Rattle.xor_chunks.specs.Grammar.{IsText}
-use Rattle.block_writing.specs.Put.{PutChunk, Put, IsStored, IsAfterChunks, with_chunk}
+use Rattle.block_writing.specs.Put.{PlanFields, PutChunk, Put, IsStored, IsAfterChunks, with_chunk}
+use Rattle.block_writing.proofs.Tested.{refused_at}
 use Rattle.block_writing.proofs.PutLaws.{behind_last}
 use Rattle.block_writing.specs.Built.{StandsFor}
 use Rattle.block_merging.specs.declared.placed_chunk.PlacedChunk.{PlacedChunk}
-use Rattle.block_merging.specs.Placed.{placed_chunk}
-use Rattle.block_merging.specs.Steps.{HasRun}
+use Rattle.block_merging.specs.Placed.{placed_chunk, stands_before}
+use Rattle.block_merging.specs.Steps.{IsReadable, run_in, HasRun}
 use Rattle.base.proofs.Pairs.{AllZip-append}
 use Rattle.base.specs.Lists.{joined}
 use Rattle.base.proofs.Lists.{joined-push}
@@ -35,6 +38,22 @@ alone_put (Ok x) old new labels chunk stored ok =
     }
 
 -- ---- samples that are read
+
+-- what is wanting where all else was there
+pub wanting : {X E : Type 0} (refusal none : E) → ⊥ ⊎ (◌≡◌ {A = Result X E} (Err refusal) (Err none)) → refusal ≡ none
+wanting refusal none (inl found) = absurd found
+wanting {X} refusal none (inr same) = err_is {A = X} refusal none same
+
+pub all_readable : (plan : PlanFields) (chunks : List PutChunk) → AllByRecursion (IsStored plan) chunks → AllByRecursion IsReadable chunks
+all_readable plan [] all = tt
+all_readable plan (c ∷ cs) all = ((all.0.samples, all.0.text_is), all_readable plan cs all.1)
+
+of_placed : (chunks : List PlacedChunk) → AllByRecursion IsReadable (map placed_chunk chunks) → AllByRecursion (λ one. IsReadable (placed_chunk one)) chunks
+of_placed [] all = tt
+of_placed (c ∷ cs) all = (all.0, of_placed cs all.1)
+
+pub readable_here : (run sorted : List PlacedChunk) (k : ℕ) (one d : PlacedChunk) → AllByRecursion IsReadable (run_in run) → sorted ≡ in_order stands_before run → k < length sorted → one ≡ get_or sorted k d → IsReadable (placed_chunk one)
+readable_here run sorted k one d all is lt at = refused_at (λ (x : PlacedChunk). IsReadable (placed_chunk x)) sorted k one d lt at (of_placed sorted (subst (λ (l : List PlacedChunk). AllByRecursion IsReadable (map placed_chunk l)) (sym is) all))
 
 pub record Read (chunks : List PlacedChunk) (samples : List Sample) : Type 0 where
   pub parts : List (List Sample)

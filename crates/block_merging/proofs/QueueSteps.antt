@@ -188,6 +188,9 @@ any_d (x ∷ xs) (suc k) d e lt = any_d xs k d e (omega (arith, lt))
 pub no_next : (external : List Label) (replicas : List (List ℕ)) (places : List SeriesPlace) (taken : ℕ) (labels : List Label) (chunks : List ChunkPlace) → length places ≤ taken → IsNext external replicas places taken labels chunks
 no_next external replicas places taken labels chunks all = record { labels_are = λ d lt. absurd (omega (arith, all, lt)); chunks_are = λ d lt. absurd (omega (arith, all, lt)); lawful = λ lt. absurd (omega (arith, all, lt)) }
 
+pub read_here : (held : Held) (places : List SeriesPlace) (taken number : ℕ) (place d : SeriesPlace) → AllByRecursion (IsRead held) places → taken < length places → place ≡ get_or places taken d → number ≡ place.number → (series : IndexSeries) × IsSeriesOf held.bytes held.symbols number series
+read_here held places taken number place d all lt at number_is = (place.indexed.value, subst (λ (n : ℕ). IsSeriesOf held.bytes held.symbols n place.indexed.value) (sym number_is) (refused_at (IsRead held) places taken place d lt at all))
+
 pub next_read : (external : List Label) (replicas : List (List ℕ)) (held : Held) (places : List SeriesPlace) (taken number : ℕ) (place d : SeriesPlace) (series : IndexSeries) (labels : List Label) (chunks : List ChunkPlace) → AllByRecursion (IsRead held) places → taken < length places → place ≡ get_or places taken d → number ≡ place.number
     → ((s : IndexSeries) → IsSeriesOf held.bytes held.symbols number s → series ≡ s) → labels ≡ reduced_of series.labels external replicas → chunks ≡ series.chunks → IsNext external replicas places taken labels chunks
 next_read external replicas held places taken number place d series labels chunks all lt at number_is found labels_is chunks_is =

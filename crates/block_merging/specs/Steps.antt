@@ -16,6 +16,10 @@ use Rattle.block_merging.specs.MergedSeries.{Becomes}
 abbrev pub run_in : List PlacedChunk → List PutChunk
 run_in run = map placed_chunk (in_order stands_before run)
 
+-- the chunk's data stands for samples
+abbrev pub IsReadable : PutChunk → Type 0
+IsReadable chunk = (samples : List Sample) × StandsFor chunk samples
+
 -- what becomes of a run was put
 pub record HasRun (old : Put) (labels : List Label) (run : List PutChunk) (new : Put) : Type 0 where
   pub made : List PutChunk

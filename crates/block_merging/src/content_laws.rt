@@ -1,3 +1,6 @@
+//! Laws over the writer of blocks and the readers of their content: what is put into a block is what its files hold,
+//! and nothing else. So the laws on journals can speak of samples where a bucket has bytes alone.
+
 ghost use Rattle.std.specs.Prelude.{◌≡◌, ◌≢◌, ℕ, List, [], ◌∷◌};
 ghost use Rattle.label_sets.specs.declared.series.Series.{Series};
 ghost use Rattle.block_meta.specs.declared.block_plan.BlockPlan.{BlockPlan};
@@ -9,6 +12,7 @@ ghost use Rattle.block_writing.specs.WrittenMeta.{IsWritten};
 ghost use Rattle.block_writing.specs.Built.{IsBuilt};
 ghost use Rattle.block_content.specs.Content.{IsContent};
 ghost use Rattle.block_content.specs.Checking.{Passes, RefusesBlock};
+ghost use Rattle.block_content.specs.Named.{NamesFew};
 ghost use Rattle.block_content.specs.declared.check_refusal.CheckRefusal.TheVariants.{EmptyBlock};
 ghost use Rattle.block_merging.specs.PutContent.{AreSeriesOf, AreBytes, IsFirstLevel};
 
@@ -53,11 +57,12 @@ pub fn files_are_one()
         → (index ≡ other) × (segments ≡ others) }
 {}
 
-/// A law: a block of level 1 that is its own only source may be shipped once it is written, unless it has no series.
+/// A law: a block of level 1 that is its own only source may be shipped once it is written, unless it has no series, or its labels'
+/// texts are long and shared by so many that they pass what an index may name.
 pub fn written_blocks_pass()
     ensures passes { (put : Put) (files : BlockFiles) (list : List Series)
         → IsWritten put files → IsFirstLevel put.plan → put.series ≢ []
-        → AreSeriesOf put.series list → Passes put.plan.ulid files list }
+        → AreSeriesOf put.series list → NamesFew files → Passes put.plan.ulid files list }
     ensures empty { (put : Put) (files : BlockFiles)
         → IsWritten put files → IsFirstLevel put.plan → put.series ≡ []
         → RefusesBlock put.plan.ulid files EmptyBlock }
@@ -67,7 +72,7 @@ pub fn written_blocks_pass()
 pub fn built_blocks_pass()
     ensures passes { (plan : BlockPlan) (series : List Series) (files : BlockFiles)
         → IsBuilt plan series files → IsFirstLevel (plan_fields plan) → series ≢ []
-        → Passes plan.ulid files series }
+        → NamesFew files → Passes plan.ulid files series }
     ensures empty { (plan : BlockPlan) (files : BlockFiles)
         → IsBuilt plan [] files → IsFirstLevel (plan_fields plan)
         → RefusesBlock plan.ulid files EmptyBlock }

@@ -10,7 +10,7 @@ ghost use Rattle.block_merging.specs.Queues.{IsOpenedIndex, HasQueue, HasQueues}
 
 use crate::MergeRefusal;
 use crate::listing::ordered_places;
-use crate::series_queue::{SeriesQueue, next_of};
+use crate::series_queue::{SeriesQueue, next_of, only_memory};
 use base::NoMemory;
 use block_content::{CheckRefusal, test_content};
 use block_meta::BlockFiles;
@@ -21,17 +21,20 @@ use wire_bytes::NumberList;
 
 /// Opens an index that was read before, so that only memory can be wanting.
 fn open_again(alloc: Global, index: &[u8]) -> Result<IndexReader<'_>, NoMemory>
+    requires { (opened : Opened) × (opened.bytes ≡ index.now) × IsOpened opened }
     ensures { (opened : Opened) → opened.bytes ≡ index.now → IsOpened opened
         → IfOk result (λ reader. reader ≡ whole_file opened) }
 {
     match IndexReader::open(alloc, index) {
         Ok(reader) => Ok(reader),
-        Err(_) => Err(NoMemory),
+        Err(refusal) => Err(only_memory(refusal)),
     }
 }
 
-/// The numbers of all series.
+/// The numbers of all series of an index that was read before.
 fn all_numbers(alloc: Global, reader: &IndexReader<'_>) -> Result<NumberList, NoMemory>
+    requires { (index : List ℕ) × (list : List IndexSeries) × (is : IsIndex index list)
+        × (reader.now ≡ whole_file is.opened) }
     ensures rises { IfOk result IsStrictlyIncreasing }
     ensures agrees { (index : List ℕ) (list : List IndexSeries) (is : IsIndex index list)
         → IsReaderOf reader.now is.opened
@@ -39,7 +42,7 @@ fn all_numbers(alloc: Global, reader: &IndexReader<'_>) -> Result<NumberList, No
 {
     match reader.postings(alloc, "", "") {
         Ok(numbers) => Ok(numbers),
-        Err(_) => Err(NoMemory),
+        Err(refusal) => Err(only_memory(refusal)),
     }
 }
 
@@ -48,6 +51,7 @@ fn reader_and_numbers<'a>(
     alloc: Global,
     index: &'a [u8],
 ) -> Result<(IndexReader<'a>, NumberList), NoMemory>
+    requires { (list : List IndexSeries) × IsIndex index.now list }
     ensures { (bytes : List ℕ) (list : List IndexSeries) (is : IsIndex bytes list)
         → bytes ≡ index.now
         → IfOk result (λ made. IsOpenedIndex is.opened is.listed made.0 made.1) }

@@ -14,7 +14,7 @@ ghost use Rattle.block_writing.specs.Put.{IsStored, IsAfterChunks, IsAfterSeries
 ghost use Rattle.block_writing.specs.Built.{StandsFor};
 ghost use Rattle.block_merging.specs.Placed.{chunk_of, placed_chunk, AreByBegin};
 ghost use Rattle.block_merging.specs.MergedSeries.{HasMerged};
-ghost use Rattle.block_merging.specs.Steps.{run_in, HasRun, HasRuns, HasSwept};
+ghost use Rattle.block_merging.specs.Steps.{IsReadable, run_in, HasRun, HasRuns, HasSwept};
 
 use crate::input_chunk::InputChunk;
 use crate::placed_chunk::{PlacedChunk, placed_chunks, sort_by_begin, sort_by_place};
@@ -24,7 +24,7 @@ use block_writing::{BlockWriter, put_parts};
 use label_sets::{LabelSet, Sample, Series, SeriesList};
 use std::alloc::Global;
 use vertical_merge::Merger;
-use xor_chunks::append_stored;
+use xor_chunks::{XorRefusal, append_stored};
 
 /// Puts the merge of the chunks of one series, and ends it. The chunks stand in the order of their blocks, of which an earlier
 /// one wins at a time that both have. The writer keeps the labels.
@@ -152,6 +152,7 @@ fn carry(writer: &mut BlockWriter, chunk: &InputChunk<'_>) -> Result<(), NoMemor
 
 /// The samples of chunks one after another, in the order in which the chunks were given.
 fn run_samples(alloc: Global, run: &[PlacedChunk<'_>]) -> Result<Vec<Sample>, NoMemory>
+    requires { AllByRecursion IsReadable (run_in run.now) }
     ensures { IfOk result (λ samples. (parts : List (List Sample))
         × AllZip StandsFor (run_in run.now) parts × (samples.items ≡ joined parts)) }
 {
@@ -164,14 +165,25 @@ fn run_samples(alloc: Global, run: &[PlacedChunk<'_>]) -> Result<Vec<Sample>, No
     Ok(samples)
 }
 
-/// Reads the samples of a chunk behind others. Stored data are refused for want of memory alone.
+/// What is wanting where a chunk was read before.
+fn only_memory(refusal: XorRefusal) -> NoMemory
+    requires { refusal ≡ XorRefusal.NoMemory }
+{
+    match refusal {
+        XorRefusal::NoMemory => NoMemory,
+        _ => unreachable!(),
+    }
+}
+
+/// Reads the samples of a chunk behind others. The chunk was read before, so only memory can be wanting.
 fn append_samples(samples: Vec<Sample>, bytes: &[u8]) -> Result<Vec<Sample>, NoMemory>
+    requires { (read : List Sample) × IsText stored_filling bytes.now read }
     ensures { IfOk result (λ all. (read : List Sample) × IsText stored_filling bytes.now read
         × (all.items ≡ samples.items ++ read)) }
 {
     match append_stored(samples, bytes) {
         Ok(all) => Ok(all),
-        Err(_) => Err(NoMemory),
+        Err(refusal) => Err(only_memory(refusal)),
     }
 }
 

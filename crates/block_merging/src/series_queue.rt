@@ -16,7 +16,7 @@ use crate::listing::SeriesPlace;
 use base::NoMemory;
 use block_meta::BlockFiles;
 use index_parts::ChunkPlace;
-use index_v2::{IndexReader, LentLabel, LentSeries};
+use index_v2::{IndexReader, IndexRefusal, LentLabel, LentSeries};
 use label_sets::{LabelSet, TextList};
 use std::alloc::Global;
 use std::mem::replace;
@@ -34,19 +34,31 @@ pub(crate) struct SeriesQueue<'a> {
     pub(crate) labels: Vec<LentLabel<'a>>,
 }
 
+/// What is wanting where an index was read before.
+pub(crate) fn only_memory(refusal: IndexRefusal) -> NoMemory
+    requires { refusal ≡ IndexRefusal.NoMemory }
+{
+    match refusal {
+        IndexRefusal::NoMemory => NoMemory,
+        _ => unreachable!(),
+    }
+}
+
 /// The series of a number, in the room of another. It was read before, so only memory can be wanting.
 fn series_at<'a>(
     reader: &IndexReader<'a>,
     number: u32,
     room: LentSeries<'a>,
 ) -> Result<LentSeries<'a>, NoMemory>
+    requires { (series : IndexSeries)
+        × IsSeriesOf reader.now.bytes reader.now.symbols number series }
     ensures { (series : IndexSeries)
         → IsSeriesOf reader.now.bytes reader.now.symbols number series
         → IfOk result (λ read. read ≡ series) }
 {
     match reader.lent_series(number, room) {
         Ok(series) => Ok(series),
-        Err(_) => Err(NoMemory),
+        Err(refusal) => Err(only_memory(refusal)),
     }
 }
 

@@ -9,6 +9,7 @@ pub mod FoundLabels
 pub mod FoundSections
 pub mod FoundTexts
 pub mod AscendingOnce
+mod StringSpans
 pub mod Sizes
 pub mod FewMembers
 pub mod SameMetas

@@ -2,16 +2,26 @@
 use Rattle.std.specs.Prelude.{ℕ, ◌<◌, ◌≤◌, ◌^◌, FitsSigned, length}
 use Rattle.std.specs.Int.{w64}
 use Rattle.std.specs.List.{AllByRecursion}
+use Rattle.label_sets.specs.declared.label.Label.{Label}
+use Rattle.block_meta.specs.declared.file_size.FileSize.{FileSize}
 use Rattle.block_meta.specs.declared.parent.Parent.{Parent}
 use Rattle.block_meta.specs.MetaFields.{MetaFields}
 
--- no list has more members than this
+-- neither text of a label has more bytes than this
+abbrev pub HasSmallTexts : ℕ → Label → Type 0
+HasSmallTexts most label = (length label.name ≤ most) × (length label.value ≤ most)
+
+-- no list has more members than this, and no text more bytes
 pub record HasFew (meta : MetaFields) (most : ℕ) : Type 0 where
   pub sources : length meta.sources ≤ most
   pub parents : length meta.parents ≤ most
   pub labels : length meta.labels ≤ most
+  pub label_texts : AllByRecursion (HasSmallTexts most) meta.labels
+  pub source : length meta.source ≤ most
   pub files : length meta.files ≤ most
+  pub file_texts : AllByRecursion (λ (file : FileSize). length file.path ≤ most) meta.files
   pub segment_files : length meta.segment_files ≤ most
+  pub segment_texts : AllByRecursion (λ text. length text ≤ most) meta.segment_files
 
 -- The times of a parent are numbers of 64 bits.
 pub record FitsParent (parent : Parent) : Type 0 where

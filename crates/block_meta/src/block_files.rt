@@ -2,7 +2,7 @@ ghost use Rattle.std.specs.Prelude.{◌≤◌, length};
 ghost use Rattle.block_keys.specs.Keys.{segment_limit};
 
 use crate::Meta;
-use base::List;
+use base::{List, NoMemory, TryCopy};
 use wire_bytes::Blob;
 
 /// A list of blobs.
@@ -16,4 +16,14 @@ pub struct BlockFiles {
     /// The segments of chunks, numbered from 1.
     pub segments: BlobList,
     pub ghost numbered: { length segments ≤ segment_limit },
+}
+
+impl TryCopy for BlockFiles {
+    fn copy(&self) -> Result<Self, NoMemory> {
+        Ok(BlockFiles {
+            meta: self.meta.copy()?,
+            index: self.index.copy()?,
+            segments: self.segments.copy()?,
+        })
+    }
 }

@@ -1,3 +1,7 @@
+//! The section `compaction` of a `meta.json`: how often samples were compacted, from which shipped blocks they come,
+//! and which blocks went into the last round. The parents are written for whoever looks at a bucket; nothing is decided
+//! by them.
+
 ghost use Rattle.std.specs.Prelude.{◌≡◌, Ok, All, IfOk, OnOk};
 ghost use Rattle.std.specs.List.Sorted.{IsStrictlyIncreasing};
 ghost use Rattle.base.specs.Reading.{Gives};

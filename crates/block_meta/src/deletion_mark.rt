@@ -1,4 +1,7 @@
-ghost use Rattle.std.specs.Prelude.{◌≡◌, ◌<◌, IfOk};
+//! The object that retires a block before it is deleted, so that whoever still reads the block has time to end.
+//! Compactions write it and cleanings go by its age, which is counted in whole seconds, as in Thanos.
+
+ghost use Rattle.std.specs.Prelude.{◌≡◌, ◌<◌, ◌≤◌, length, IfOk};
 ghost use Rattle.block_meta.specs.Lawful.{deletion_limit};
 
 use crate::MetaRefusal;
@@ -45,6 +48,9 @@ impl DeletionMark {
         ensures found { IfOk result (λ mark. IsMarkText bytes.now (mark_fields_of mark)) }
         ensures only { (mark : MarkFields) → IsMarkText bytes.now mark
             → mark_of_text bytes.now ≡ Ok mark }
+
+        // Its text has no more bytes than the whole.
+        ensures few { IfOk result (λ mark. length mark.details ≤ length bytes.now) }
     {
         DeletionMark::of_text(alloc, bytes)
     }

@@ -1,3 +1,6 @@
+//! What a block says of itself: all that a sync, or the planner of a compaction, knows of it, as neither of them reads
+//! an index.
+
 ghost use Rattle.std.specs.Prelude.{◌≡◌, ◌<ℤ◌, ◌≤ℤ◌, pos, neg_ℤ, ◌^◌};
 ghost use Rattle.std.specs.Int.{int_max};
 ghost use Rattle.std.specs.List.Sorted.{IsStrictlyIncreasing};
@@ -64,7 +67,7 @@ impl Meta {
         ensures only { (meta : MetaFields) → IsMetaText bytes.now meta
             → meta_of_text bytes.now ≡ Ok meta }
 
-        // No list has more members than the text has bytes.
+        // No list has more members than the text has bytes, and no text in it more bytes.
         ensures few { IfOk result (λ meta. HasFew (fields_of meta) (length bytes.now)) }
     {
         Meta::of_text(alloc, bytes)

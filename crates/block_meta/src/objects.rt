@@ -1,3 +1,6 @@
+//! A block's files under the keys by which they are uploaded. The meta is the last, so that a block whose meta stands
+//! is complete, and an upload that was interrupted leaves a block that nobody reads.
+
 ghost use Rattle.std.specs.Prelude.{◌≡◌, ◌+◌, ◌≤◌, [], ◌∷◌, ◌++◌, All, length, vec_len, IfOk, OnOk};
 ghost use Rattle.block_keys.specs.Keys.{segment_limit};
 ghost use Rattle.block_meta.specs.Bounds.{HasFittingNumbers};

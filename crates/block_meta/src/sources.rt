@@ -1,3 +1,6 @@
+//! The shipped blocks whose samples a block holds, through any number of compactions. They are kept ascending and each
+//! once, whatever the text had, so that it is soon told whether one block's sources lie within another's.
+
 ghost use Rattle.std.specs.Prelude.{◌≡◌, ◌<◌, ◌^◌, IfOk, OnOk};
 ghost use Rattle.std.specs.List.Sorted.{IsStrictlyIncreasing};
 ghost use Rattle.base.specs.Reading.{Gives};

@@ -1,3 +1,6 @@
+//! The section `thanos` of a `meta.json`: external labels, resolution, and the files by name and size. A block straight
+//! from a Prometheus server has none of it, so each member has a value that stands for its absence.
+
 ghost use Rattle.std.specs.Prelude.{◌≡◌, ⊤, [], codes, Ok, MatchResult, IfOk, OnOk};
 ghost use Rattle.base.specs.Reading.{Gives, Answers};
 ghost use Rattle.serde_json.specs.Data.{string, object};

@@ -1,3 +1,6 @@
+//! A block that is written of chunk data as they are. A merge carries most chunks over without decoding them, so no
+//! more is read of their data than how many samples they say that they have.
+
 ghost use Rattle.std.specs.Prelude.{◌≡◌, ◌≢◌, ◌⊎◌, [], ◌∷◌, List, length, Err, IfOk, IfSome, OnOk, OnErr};
 ghost use Rattle.std.specs.List.{AllByRecursion};
 ghost use Rattle.base.specs.Grammar.{IsBytes};
@@ -69,8 +72,8 @@ impl BlockWriter {
         BlockWriter::with_room(alloc, plan, 0)
     }
 
-    /// The same, where the block's segments are thought to come to so many bytes: the first one begins with room for them, as
-    /// far as a segment may have them.
+    /// A writer of a block without series whose segments are thought to come to so many bytes: the first one begins with room
+    /// for them, as far as a segment may have them.
     pub fn with_room(alloc: Global, plan: BlockPlan, room: usize) -> BlockWriter
         ensures { result ≡ nothing_put (plan_fields plan) }
     {

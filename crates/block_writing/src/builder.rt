@@ -1,3 +1,6 @@
+//! A block that is built of samples, as a script declares them: 120 samples a chunk, which is how Prometheus cuts them.
+//! A merge puts the samples that it merged in the same way.
+
 ghost use Rattle.std.specs.Prelude.{◌≡◌, ◌⊎◌, ◌^◌, ◌<◌, [], length, Err, IfOk, OnOk};
 ghost use Rattle.std.specs.List.{AllByRecursion};
 ghost use Rattle.base.specs.Grammar.{IsBytes};

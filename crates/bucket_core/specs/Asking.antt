@@ -10,10 +10,10 @@ pub data Call : Type 0 where
   -- the names within a key's first part, or all first parts where it is empty, after a name, at most so many
   lists : List ℕ → List ℕ → ℕ → Call
 
--- where what was asked is told, this was asked since, in this order
-abbrev pub Asks : {S X : Type 0} → (S → Option (List X)) → S → S → List X → Type 0
-Asks {S} {X} asked old new since = IfSome (asked old) (λ before. asked new ≡ Some (before ++ since))
+-- Where it is told what was asked before, it is told now too: that, and then these in this order.
+abbrev pub Asks : {X : Type 0} → Option (List X) → Option (List X) → List X → Type 0
+Asks {X} before now since = IfSome before (λ asked. now ≡ Some (asked ++ since))
 
 -- This alone was asked. Where the answer is that memory was wanted, it may have been left out.
-abbrev pub AsksOnce : {S X A : Type 0} → (S → Option (List X)) → S → S → X → A → A → Type 0
-AsksOnce {S} {X} {A} asked old new call answer no_memory = Asks asked old new (call ∷ []) ⊎ ((asked new ≡ asked old) × (answer ≡ no_memory))
+abbrev pub AsksOnce : {X A : Type 0} → Option (List X) → Option (List X) → X → A → A → Type 0
+AsksOnce {X} {A} before now call answer no_memory = Asks before now (call ∷ []) ⊎ ((now ≡ before) × (answer ≡ no_memory))

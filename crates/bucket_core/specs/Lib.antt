@@ -9,9 +9,11 @@ pub mod MemoryShelf
 pub mod MemorySink
 pub mod MemorySite
 pub mod MemorySource
-pub mod Pages
-pub mod Stored
-pub mod Streams
 pub mod Named
 pub mod Noted
+pub mod Openings
+pub mod Pages
 pub mod Spelled
+pub mod Stored
+pub mod Streams
+pub mod Told

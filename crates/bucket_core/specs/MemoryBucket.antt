@@ -3,6 +3,7 @@ use Rattle.std.specs.Prelude.{◌≡◌, ◌≢◌, ℕ, Bool, false, if◌then�
 use Rattle.bucket_core.specs.Calls.{next_call, failure_of, AllOver}
 use Rattle.bucket_core.specs.Contents.{Contents}
 use Rattle.bucket_core.specs.Stored.{object_in}
+use Rattle.bucket_core.specs.Told.{BucketTold}
 use Rattle.bucket_core.specs.declared.answer.PutAnswer.{PutAnswer}
 use Rattle.bucket_core.specs.declared.answer.PutAnswer.TheVariants as put
 use Rattle.bucket_core.specs.declared.answer.GetAnswer.{GetAnswer}
@@ -26,13 +27,22 @@ calls_to_fail bucket = bucket.failing
 abbrev pub faults_counted : MemoryBucket → ℕ
 faults_counted bucket = bucket.faults
 
--- what the list says of the next call
-abbrev pub next_failure : MemoryBucket → Option Bool
-next_failure bucket = failure_of (calls_to_fail bucket) (next_call (calls_made bucket))
-
 -- no call of the list is to come
 abbrev pub IsQuiet : MemoryBucket → Type 0
 IsQuiet bucket = AllOver (calls_to_fail bucket) (next_call (calls_made bucket))
+
+-- what is told of it; it tells no calls
+abbrev pub bucket_told : MemoryBucket → BucketTold
+bucket_told bucket = record {
+  contents = Some (objects_held bucket);
+  asked = None;
+  faults = faults_counted bucket;
+  quiet = IsQuiet bucket;
+}
+
+-- what the list says of the next call
+abbrev pub next_failure : MemoryBucket → Option Bool
+next_failure bucket = failure_of (calls_to_fail bucket) (next_call (calls_made bucket))
 
 -- a call fails just where the list says so; a put that finds no memory has neither failed nor stored
 abbrev pub PutsBy : Option Bool → PutAnswer → Type 0

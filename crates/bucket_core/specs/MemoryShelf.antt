@@ -1,8 +1,9 @@
 -- What a shelf in memory shows: its files, and the calls that are to fail.
-use Rattle.std.specs.Prelude.{◌≡◌, ℕ, Bool, if◌then◌else◌, List, Option, None, IsSome, find, option_map}
+use Rattle.std.specs.Prelude.{◌≡◌, ℕ, Bool, if◌then◌else◌, List, Option, Some, None, IsSome, find, option_map}
 use Rattle.std.specs.Str.{bytes_eq}
 use Rattle.bucket_core.specs.Calls.{next_call, failure_of}
 use Rattle.bucket_core.specs.Contents.{Contents}
+use Rattle.bucket_core.specs.Told.{ShelfTold}
 use Rattle.bucket_core.specs.declared.answer.ShelfAnswer.{ShelfAnswer}
 use Rattle.bucket_core.specs.declared.answer.ShelfAnswer.TheVariants.{Found, Absent, TooLarge, Failed, NoMemory}
 use Rattle.bucket_core.specs.declared.fail.Fail.{Fail}
@@ -24,6 +25,14 @@ calls_to_fail shelf = shelf.failing
 
 abbrev pub faults_counted : MemoryShelf → ℕ
 faults_counted shelf = shelf.faults
+
+-- what is told of it; it tells no names
+abbrev pub shelf_told : MemoryShelf → ShelfTold
+shelf_told shelf = record {
+  files = Some (file_in (files_held shelf));
+  asked = None;
+  faults = faults_counted shelf;
+}
 
 -- what the list says of the next call
 abbrev pub next_failure : MemoryShelf → Option Bool

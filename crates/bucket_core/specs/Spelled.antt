@@ -1,6 +1,7 @@
 -- The text that a spelling is of.
 use Rattle.std.specs.Prelude.{ℕ, List, [], ◌∷◌, ◌++◌, Option, Some, None}
 use Rattle.std.specs.declared.snapshot.Snapshot.{Snapshot}
+use Rattle.bucket_core.specs.declared.notes.TextNotes.{TextNotes}
 use Rattle.bucket_core.specs.declared.notes.Spelling.{Spelling, Spelling', Held-Spelling-before, None', Some'}
 
 abbrev mutual
@@ -14,3 +15,7 @@ abbrev mutual
 abbrev pub text_told : Option (Snapshot Spelling) → List ℕ
 text_told None = []
 text_told (Some spelling) = text_in spelling.value
+
+-- the text that notes are of
+abbrev pub text_noted : TextNotes → List ℕ
+text_noted notes = text_told notes.text

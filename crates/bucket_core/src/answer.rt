@@ -1,3 +1,6 @@
+//! What the outside answers. A put or a deletion that failed may have landed all the same, as over a network, so
+//! whoever hears of a failure knows nothing of what stands.
+
 use label_sets::TextList;
 use wire_bytes::Blob;
 

@@ -1,6 +1,6 @@
 //! The outside as traits: a bucket of objects, a shelf of files, a site that opens both, a source and a sink of bytes.
-//! Each has a form in memory.
-//! Notes of what a bucket or a shelf was asked, for clauses alone: by them it tells what it was asked.
+//! Each has a form in memory. Beside them stand notes of what a bucket or a shelf was asked, for clauses alone: by them it
+//! tells what it was asked.
 #![tactic(auto)]
 
 mod answer;

@@ -1,3 +1,6 @@
+//! Pages of a bucket in memory. The names of the whole bucket are the first parts of keys, and objects are kept in
+//! their order, so that equal names are neighbours and each is listed once.
+
 ghost use Rattle.std.specs.Prelude.{◌≡◌, ◌++◌, ◌∷◌, [], IfOk, option_map};
 ghost use Rattle.std.specs.String.{string_bytes};
 ghost use Rattle.wire_bytes.specs.Files.{slash};

@@ -1,3 +1,6 @@
+//! The bucket of the word `memory`, and of most tests. It tells what it holds, so a contract over it says what each
+//! call leaves; and calls can be made to fail by their numbers, with their effect or without it.
+
 ghost use Rattle.std.specs.Prelude.{◌≡◌, ◌≤◌, [], option_map, IsTrue, false, OnOk, OnErr};
 ghost use Rattle.std.proofs.Props.{props};
 ghost use Rattle.std.specs.List.Sorted.{IsStrictlySortedBy};
@@ -125,15 +128,9 @@ impl Bucket for MemoryBucket {
     ghost use Rattle.bucket_core.specs.Contents.{IsKey, after_put, after_delete, range_of, Shows};
     ghost use Rattle.bucket_core.specs.Pages.{ShowsPage};
     ghost use Rattle.bucket_core.specs.KeyLaw.{told_is_key};
-    ghost use Rattle.bucket_core.specs.MemoryBucket.{objects_held, calls_made, calls_to_fail, faults_counted, next_failure, IsQuiet, CallCounted, PutsBy, GetsBy, DeletesBy, PagesBy};
+    ghost use Rattle.bucket_core.specs.MemoryBucket.{objects_held, bucket_told, calls_made, calls_to_fail, faults_counted, next_failure, CallCounted, PutsBy, GetsBy, DeletesBy, PagesBy};
 
-    ghost contents = { λ bucket. Some (objects_held bucket) };
-
-    ghost asked = { λ bucket. None };
-
-    ghost faults = { faults_counted };
-
-    ghost quiet = { IsQuiet };
+    ghost told = { bucket_told };
 
     ghost only_keys = { λ bucket c key told some. told_is_key bucket.objects.items bucket.keys c key
         told some };
@@ -142,7 +139,7 @@ impl Bucket for MemoryBucket {
         requires { IsKey key.now }
         ensures left { objects_held self.new
             ≡ after_put key.now bytes.now result (objects_held self.old) }
-        ensures kept { KeepsFaults faults_counted IsQuiet self.old self.new (put_failed result) }
+        ensures kept { KeepsFaults (bucket_told self.old) (bucket_told self.new) (put_failed result) }
         ensures fails { PutsBy (next_failure self.old) result }
         ensures counted { CallCounted (put_failed result) self.old self.new }
     {
@@ -164,7 +161,7 @@ impl Bucket for MemoryBucket {
     fn get(&mut self, key: &str) -> GetAnswer
         ensures shown { Shows (objects_held self.old key.now) result }
         ensures left { objects_held self.new ≡ objects_held self.old }
-        ensures kept { KeepsFaults faults_counted IsQuiet self.old self.new (get_failed result) }
+        ensures kept { KeepsFaults (bucket_told self.old) (bucket_told self.new) (get_failed result) }
         ensures fails { GetsBy (next_failure self.old) result }
         ensures counted { CallCounted (get_failed result) self.old self.new }
     {
@@ -179,7 +176,7 @@ impl Bucket for MemoryBucket {
         ensures shown { Shows
             (option_map (range_of from len) (objects_held self.old key.now)) result }
         ensures left { objects_held self.new ≡ objects_held self.old }
-        ensures kept { KeepsFaults faults_counted IsQuiet self.old self.new (get_failed result) }
+        ensures kept { KeepsFaults (bucket_told self.old) (bucket_told self.new) (get_failed result) }
         ensures fails { GetsBy (next_failure self.old) result }
         ensures counted { CallCounted (get_failed result) self.old self.new }
     {
@@ -192,7 +189,7 @@ impl Bucket for MemoryBucket {
 
     fn delete(&mut self, key: &str) -> DeleteAnswer
         ensures left { objects_held self.new ≡ after_delete key.now result (objects_held self.old) }
-        ensures kept { KeepsFaults faults_counted IsQuiet self.old self.new (delete_failed result) }
+        ensures kept { KeepsFaults (bucket_told self.old) (bucket_told self.new) (delete_failed result) }
         ensures fails { DeletesBy (next_failure self.old) result }
         ensures counted { CallCounted (delete_failed result) self.old self.new }
     {
@@ -213,7 +210,7 @@ impl Bucket for MemoryBucket {
         requires { 1 ≤ limit }
         ensures shown { ShowsPage (objects_held self.old) within.now after.now limit result }
         ensures left { objects_held self.new ≡ objects_held self.old }
-        ensures kept { KeepsFaults faults_counted IsQuiet self.old self.new (page_failed result) }
+        ensures kept { KeepsFaults (bucket_told self.old) (bucket_told self.new) (page_failed result) }
         ensures fails { PagesBy (next_failure self.old) result }
         ensures counted { CallCounted (page_failed result) self.old self.new }
     {

@@ -1,3 +1,6 @@
+//! A shelf for tests, with files in memory, of which calls can be made to fail by their numbers. The program's own
+//! shelves are folders.
+
 ghost use Rattle.std.specs.Prelude.{◌≡◌, ◌+◌, ◌≤◌, List, [], option_map, false};
 ghost use Rattle.bucket_core.specs.Calls.{next_call};
 ghost use Rattle.bucket_core.specs.Causes.{file_failed};
@@ -97,25 +100,18 @@ fn answer_of(alloc: Global, file: Option<&[u8]>) -> ShelfAnswer
 
 impl Shelf for MemoryShelf {
     ghost use Rattle.std.specs.Prelude.{◌≡◌, ◌≤◌, None, Some, IsTrue, false};
-    ghost use Rattle.bucket_core.specs.Causes.{Rose, file_failed};
+    ghost use Rattle.bucket_core.specs.Causes.{CountsFaults, file_failed};
     ghost use Rattle.bucket_core.specs.Files.{IsWithinLimit, ShowsFile};
-    ghost use Rattle.bucket_core.specs.MemoryShelf.{file_in, files_held, faults_counted, next_failure, ReadsBy, ReadCounted};
+    ghost use Rattle.bucket_core.specs.MemoryShelf.{file_in, files_held, shelf_told, faults_counted, next_failure, ReadsBy, ReadCounted};
 
-    ghost files = { λ shelf. Some (file_in (files_held shelf)) };
-
-    ghost asked = { λ shelf. None };
-
-    ghost faults = { faults_counted };
+    ghost told = { shelf_told };
 
     fn read(&mut self, name: &str) -> ShelfAnswer
         ensures shown { ShowsFile (file_in (files_held self.old) name.now) result }
         ensures within { IsWithinLimit result }
         ensures same { files_held self.new ≡ files_held self.old }
-        ensures later { faults_counted self.old ≤ faults_counted self.new }
-        ensures cause { IsTrue (file_failed result)
-            → Rose (faults_counted self.old) (faults_counted self.new) }
-        ensures calm { file_failed result ≡ false
-            → faults_counted self.new ≡ faults_counted self.old }
+        ensures faults { CountsFaults (faults_counted self.old) (faults_counted self.new)
+            (file_failed result) }
         ensures fails { ReadsBy (next_failure self.old) result }
         ensures counted { ReadCounted (file_failed result) self.old self.new }
     {

@@ -1,6 +1,8 @@
+//! A source for tests: the bytes of a script in memory, and one call that can be made to fail in the middle of them.
+
 ghost use Rattle.std.specs.Prelude.{◌≡◌, ◌≤◌, ◌<◌, ◌↔◌, ◌++◌, length, take, drop, option_map, IsTrue, Some};
 ghost use Rattle.bucket_core.specs.Calls.{next_call};
-ghost use Rattle.bucket_core.specs.Causes.{Rose, read_failed};
+ghost use Rattle.bucket_core.specs.Causes.{CountsFaults, read_failed};
 ghost use Rattle.bucket_core.specs.Streams.{count_got, EndsWhereNone};
 
 use crate::{ReadAnswer, Source};
@@ -40,13 +42,11 @@ impl MemorySource {
 impl Source for MemorySource {
     ghost use Rattle.std.specs.Prelude.{◌≡◌, ◌≤◌, ◌<◌, ◌↔◌, ◌++◌, length, take, option_map, IsTrue, Some, false};
     ghost use Rattle.bucket_core.specs.Calls.{next_call};
-    ghost use Rattle.bucket_core.specs.Causes.{Rose, read_failed};
+    ghost use Rattle.bucket_core.specs.Causes.{CountsFaults, read_failed};
     ghost use Rattle.bucket_core.specs.Streams.{count_got, EndsWhereNone};
-    ghost use Rattle.bucket_core.specs.MemorySource.{bytes_left, calls_made, failing_call, faults_counted};
+    ghost use Rattle.bucket_core.specs.MemorySource.{bytes_left, calls_made, failing_call, faults_counted, source_told};
 
-    ghost left = { λ source. Some (bytes_left source) };
-
-    ghost faults = { faults_counted };
+    ghost told = { source_told };
 
     fn read(&mut self, into: &mut [u8]) -> ReadAnswer
         requires { 0 < length into.old }
@@ -54,11 +54,8 @@ impl Source for MemorySource {
         ensures taken { bytes_left self.old
             ≡ take (count_got result) into.new ++ bytes_left self.new }
         ensures end { EndsWhereNone result (Some (bytes_left self.old)) }
-        ensures later { faults_counted self.old ≤ faults_counted self.new }
-        ensures cause { IsTrue (read_failed result)
-            → Rose (faults_counted self.old) (faults_counted self.new) }
-        ensures calm { read_failed result ≡ false
-            → faults_counted self.new ≡ faults_counted self.old }
+        ensures faults { CountsFaults (faults_counted self.old) (faults_counted self.new)
+            (read_failed result) }
         ensures fails { IsTrue (read_failed result)
             ↔ (failing_call self.old ≡ Some (next_call (calls_made self.old))) }
         ensures counted { calls_made self.new ≡ next_call (calls_made self.old) }

@@ -2,7 +2,7 @@
 
 ghost use Rattle.std.specs.Prelude.{◌≡◌, ◌++◌, [], ◌∷◌};
 ghost use Rattle.bucket_core.specs.Asking.{puts, gets, gets_range, deletes, lists};
-ghost use Rattle.bucket_core.specs.Spelled.{text_told};
+ghost use Rattle.bucket_core.specs.Spelled.{text_told, text_noted};
 ghost use Rattle.bucket_core.specs.Named.{names_told};
 ghost use Rattle.bucket_core.specs.Noted.{call_of, calls_told};
 
@@ -15,11 +15,18 @@ struct Spelling {
     before: Option<Snapshot<Spelling>>,
 }
 
-/// A text, for clauses alone. The loop over its bytes keeps nothing when the program runs.
+/// A text, for clauses alone.
 fn spelling_of(bytes: &[u8]) -> Option<Snapshot<Spelling>>
     ensures { text_told result ≡ bytes.now }
 {
-    let mut before = None;
+    spelled_on(None, bytes)
+}
+
+/// A text and what follows it, for clauses alone. The loop over its bytes keeps nothing when the program runs.
+fn spelled_on(text: Option<Snapshot<Spelling>>, bytes: &[u8]) -> Option<Snapshot<Spelling>>
+    ensures { text_told result ≡ text_told text ++ bytes.now }
+{
+    let mut before = text;
     for place in 0..bytes.len() {
         let last = bytes[place];
         before = Some(Snapshot::of(&Spelling { last, before }));
@@ -35,6 +42,28 @@ enum Asked {
     GetRange(Option<Snapshot<Spelling>>, u64, u64),
     Delete(Option<Snapshot<Spelling>>),
     Page(Option<Snapshot<Spelling>>, Option<Snapshot<Spelling>>, u32),
+}
+
+/// A text that is spelled piece by piece, for clauses alone.
+#[derive(Drop)]
+pub(crate) struct TextNotes {
+    text: Option<Snapshot<Spelling>>,
+}
+
+impl TextNotes {
+    /// Nothing is spelled yet.
+    pub(crate) fn new() -> TextNotes
+        ensures { text_noted result ≡ [] }
+    {
+        TextNotes { text: None }
+    }
+
+    /// Spells these bytes behind the others.
+    pub(crate) fn note(&mut self, bytes: &[u8])
+        ensures { text_noted self.new ≡ text_noted self.old ++ bytes.now }
+    {
+        self.text = spelled_on(self.text.take(), bytes);
+    }
 }
 
 /// The last call, and those before it.

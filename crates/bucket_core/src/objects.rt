@@ -1,3 +1,6 @@
+//! The objects of a bucket in memory, sorted. They are in the order of their keys' first parts before that of their
+//! keys: by keys alone `a-b/x` would stand before `a/x`, and so the name `a-b` before `a`.
+
 ghost use Rattle.std.specs.Prelude.{◌≡◌, ◌<◌, ◌↔◌, length, List, ℕ, Some, None, IsTrue, OnOk, OnErr};
 ghost use Rattle.std.specs.Option.{option_copied};
 ghost use Rattle.std.specs.List.Sorted.{IsStrictlySortedBy};

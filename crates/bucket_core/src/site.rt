@@ -1,65 +1,45 @@
-ghost use Rattle.std.specs.Prelude.{◌≡◌, ◌≢◌, ℕ, ◌+◌, ◌≤◌, List, [], Option, Some, IfSome, IfOk, is_ok, if◌then◌else◌};
-ghost use Rattle.bucket_core.specs.Causes.{Rose};
-ghost use Rattle.bucket_core.specs.Contents.{Contents};
+//! Where the words of a call become a bucket and a shelf. It counts what it hands out, so that a contract can say that
+//! a call opened each at most once, and none that no word names.
+
+ghost use Rattle.std.specs.Prelude.{◌≡◌, ◌+◌, is_ok, IfOk, if◌then◌else◌};
+ghost use Rattle.bucket_core.specs.Causes.{CountsFaults, opening_failed};
+ghost use Rattle.bucket_core.specs.Openings.{IsBucketAsTold, IsShelfAsTold};
 
 use crate::{Bucket, Shelf, SiteRefusal};
 
-/// Where buckets and shelves are opened by name. The count of faults rises by failures alone.
+/// Where buckets and shelves are opened by name. What it tells of an opening, by its order and its name, stays as it is.
 pub trait Site {
     type Store: Bucket;
 
     type Files: Shelf;
 
-    /// How often an opening has failed.
-    ghost faults: { Self → ℕ };
+    ghost use Rattle.bucket_core.specs.Told.{SiteTold, next_bucket, next_shelf};
 
-    /// How many buckets the site has handed out.
-    ghost buckets: { Self → ℕ };
+    /// What is told of it: how many buckets and shelves it has handed out, what those hold that it hands out, and how often
+    /// an opening has failed.
+    ghost told: { Self → SiteTold };
 
-    /// How many shelves the site has handed out.
-    ghost shelves: { Self → ℕ };
-
-    /// What the next bucket holds that is opened under a name, where the site tells it.
-    ghost next_bucket: { Self → List ℕ → Option Contents };
-
-    /// What the next shelf holds that is opened under a name, where the site tells it.
-    ghost next_shelf: { Self → List ℕ → Option Contents };
-
-    /// Hands out a bucket that has not failed yet and was asked for nothing. What is told of shelves stays, and what is
-    /// told of buckets under other names.
+    /// Hands out a bucket that has not failed yet and was asked for nothing.
     fn open_bucket(&mut self, name: &str) -> Result<Self::Store, SiteRefusal>
-        ensures fresh { IfOk result (λ store. Self.Store.faults store ≡ 0) }
-        ensures unasked { IfOk result (λ store.
-            IfSome (Self.Store.asked store) (λ calls. calls ≡ [])) }
-        ensures told { IfOk result (λ store.
-            IfSome (next_bucket self.old name.now) (λ c. Self.Store.contents store ≡ Some c)) }
-        ensures counted { buckets self.new
-            ≡ (if is_ok result then buckets self.old + 1 else buckets self.old) }
-        ensures others { (other : List ℕ) → other ≢ name.now
-            → next_bucket self.new other ≡ next_bucket self.old other }
-        ensures shelves { shelves self.new ≡ shelves self.old }
-        ensures files { next_shelf self.new ≡ next_shelf self.old }
-        ensures later { faults self.old ≤ faults self.new }
-        ensures cause { result ≡ Err SiteRefusal.Failed
-            → Rose (faults self.old) (faults self.new) }
-        ensures calm { result ≢ Err SiteRefusal.Failed → faults self.new ≡ faults self.old };
+        ensures opened { IfOk result (λ store.
+            IsBucketAsTold (next_bucket (told self.old) name.now) (Self.Store.told store)) }
+        ensures counted { (told self.new).buckets ≡ (if is_ok result
+            then (told self.old).buckets + 1 else (told self.old).buckets) }
+        ensures stays { (told self.new).bucket_at ≡ (told self.old).bucket_at }
+        ensures shelves { (told self.new).shelves ≡ (told self.old).shelves }
+        ensures files { (told self.new).shelf_at ≡ (told self.old).shelf_at }
+        ensures faults { CountsFaults (told self.old).faults (told self.new).faults
+            (opening_failed result) };
 
-    /// Hands out a shelf that has not failed yet and was asked for nothing. What is told of buckets stays, and what is
-    /// told of shelves under other names.
+    /// Hands out a shelf that has not failed yet and was asked for nothing.
     fn open_shelf(&mut self, name: &str) -> Result<Self::Files, SiteRefusal>
-        ensures fresh { IfOk result (λ shelf. Self.Files.faults shelf ≡ 0) }
-        ensures unasked { IfOk result (λ shelf.
-            IfSome (Self.Files.asked shelf) (λ names. names ≡ [])) }
-        ensures told { IfOk result (λ shelf.
-            IfSome (next_shelf self.old name.now) (λ c. Self.Files.files shelf ≡ Some c)) }
-        ensures counted { shelves self.new
-            ≡ (if is_ok result then shelves self.old + 1 else shelves self.old) }
-        ensures others { (other : List ℕ) → other ≢ name.now
-            → next_shelf self.new other ≡ next_shelf self.old other }
-        ensures buckets { buckets self.new ≡ buckets self.old }
-        ensures contents { next_bucket self.new ≡ next_bucket self.old }
-        ensures later { faults self.old ≤ faults self.new }
-        ensures cause { result ≡ Err SiteRefusal.Failed
-            → Rose (faults self.old) (faults self.new) }
-        ensures calm { result ≢ Err SiteRefusal.Failed → faults self.new ≡ faults self.old };
+        ensures opened { IfOk result (λ shelf.
+            IsShelfAsTold (next_shelf (told self.old) name.now) (Self.Files.told shelf)) }
+        ensures counted { (told self.new).shelves ≡ (if is_ok result
+            then (told self.old).shelves + 1 else (told self.old).shelves) }
+        ensures stays { (told self.new).shelf_at ≡ (told self.old).shelf_at }
+        ensures buckets { (told self.new).buckets ≡ (told self.old).buckets }
+        ensures contents { (told self.new).bucket_at ≡ (told self.old).bucket_at }
+        ensures faults { CountsFaults (told self.old).faults (told self.new).faults
+            (opening_failed result) };
 }

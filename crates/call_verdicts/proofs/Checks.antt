@@ -2,6 +2,7 @@
 use Rattle.std.proofs.Common.{◌≡◌, ◌⊎◌, inl, inr, ℕ, ◌+◌, List, ◌++◌, subst, sym, ◌∙◌, refl, ap}
 use Rattle.std.specs.Prelude.{IsTrue, is_some, if◌then◌else◌, Option, Some, None, IfSome, IsSome, IsSomeAnd, Result, Ok, Err, IfOk, option_map}
 use Rattle.bucket_core.specs.Contents.{Contents, nothing}
+use Rattle.bucket_core.specs.Told.{BucketTold}
 use Rattle.bucket_core.specs.declared.site_refusal.SiteRefusal.{SiteRefusal}
 use Rattle.bucket_core.specs.declared.site_refusal.SiteRefusal.TheVariants as site
 use Rattle.world_core.specs.declared.entry.Entry.{Entry}
@@ -123,19 +124,19 @@ unopened_caused told block failed site.NoMemory v fails one two = subst (IsCheck
 
 -- ---- where no bucket was handed out
 
-pub handed_none : {S B : Type 0} (opened : S → ℕ) (old new : S) (store : Option B) → store ≡ None → opened new ≡ opened old → IsHandedOut opened old new store
-handed_none {S} {B} opened old new store none same = subst (λ (o : Option B). opened new ≡ (if is_some o then opened old + 1 else opened old)) (sym none) same
+pub handed_none : {B : Type 0} (before now : ℕ) (store : Option B) → store ≡ None → now ≡ before → IsHandedOut before now store
+handed_none {B} before now store none same = subst (λ (o : Option B). now ≡ (if is_some o then before + 1 else before)) (sym none) same
 
-pub handed_some : {S B : Type 0} (opened : S → ℕ) (old new : S) (store : Option B) (bucket : B) → store ≡ Some bucket → opened new ≡ opened old + 1 → IsHandedOut opened old new store
-handed_some {S} {B} opened old new store bucket some more = subst (λ (o : Option B). opened new ≡ (if is_some o then opened old + 1 else opened old)) (sym some) more
+pub handed_some : {B : Type 0} (before now : ℕ) (store : Option B) (bucket : B) → store ≡ Some bucket → now ≡ before + 1 → IsHandedOut before now store
+handed_some {B} before now store bucket some more = subst (λ (o : Option B). now ≡ (if is_some o then before + 1 else before)) (sym some) more
 
-pub back_none : {B : Type 0} (contents : B → Option Contents) (faults : B → ℕ) (journal : Option (List Entry)) (store : Option B) → journal ≡ None → store ≡ None → IsHandedBack contents faults journal store
-back_none {B} contents faults journal store one two =
-    subst (λ (j : Option (List Entry)). IsHandedBack contents faults j store) (sym one) (subst (λ (s : Option B). IsHandedBack contents faults None s) (sym two) tt)
+pub back_none : {B : Type 0} (tells : B → BucketTold) (journal : Option (List Entry)) (store : Option B) → journal ≡ None → store ≡ None → IsHandedBack tells journal store
+back_none {B} tells journal store one two =
+    subst (λ (j : Option (List Entry)). IsHandedBack tells j store) (sym one) (subst (λ (s : Option B). IsHandedBack tells None s) (sym two) tt)
 
-pub untouched_none : {B : Type 0} (contents : B → Option Contents) (told : List ℕ → Option Contents) (word : Option (List ℕ)) (journal : Option (List Entry)) (store : Option B) → None ≡ word
-    → IfSome (told_of told word) (λ c. IsUntouched contents c journal store)
-untouched_none {B} contents told word journal store none = subst (λ (w : Option (List ℕ)). IfSome (told_of told w) (λ c. IsUntouched contents c journal store)) none tt
+pub untouched_none : {B : Type 0} (tells : B → BucketTold) (told : List ℕ → Option Contents) (word : Option (List ℕ)) (journal : Option (List Entry)) (store : Option B) → None ≡ word
+    → IfSome (told_of told word) (λ c. IsUntouched tells c journal store)
+untouched_none {B} tells told word journal store none = subst (λ (w : Option (List ℕ)). IfSome (told_of told w) (λ c. IsUntouched tells c journal store)) none tt
 
 -- ---- what is said
 

@@ -3,13 +3,15 @@ pub mod Verdicts
 pub mod Unfailed
 pub mod HandedBack
 pub mod Opened
-pub mod Openings
 pub mod Checks
+pub mod FilesTold
 pub mod CheckedShelf
 pub mod ShelfAsked
 pub mod ShelfReads
 pub mod Stages
 pub mod BucketAsked
+pub mod Openings
+pub mod Unopened
 pub mod Noted
 pub mod Saying
 pub mod OneReport

@@ -5,8 +5,8 @@ use Rattle.world_core.specs.Keeping.{IsFull}
 use Rattle.world_core.specs.Worlds.{WorldView}
 use Rattle.world_core.specs.declared.entry.Entry.{Entry}
 use Rattle.report_lines.specs.lifecycle_core.specs.Setting.{Setting}
-use Rattle.bucket_core.specs.Asking.{Call}
 use Rattle.bucket_core.specs.Contents.{Contents}
+use Rattle.bucket_core.specs.Told.{BucketTold}
 use Rattle.call_verdicts.specs.Asked.{WasAskedAsShown, WasOnlyOpened}
 use Rattle.call_verdicts.specs.Noted.{IsFullSaid, IsNoted}
 use Rattle.call_verdicts.specs.Noted.{tells_full}
@@ -44,20 +44,20 @@ said_by (Checked block (Passed series samples)) saying said is = other_status (C
 said_by (Checked block (Refused number)) saying said is = other_status (Checked block (Refused number)) saying said (λ e. absurd (cc (e))) is
 said_by NoMemory saying said is = other_status NoMemory saying said (λ e. absurd (cc (e))) is
 
-pub full_said : {B : Type 0} (tells : Bool → Bool → Bool) (asked : B → Option (List Call)) (v : Verdict) (saying : Saying) (said : Status) (journal : Option (List Entry)) (store : Option B) (told : Option (RunNote B)) → IsNoted tells asked v journal store told → IsSaid v saying said → IfSome told (λ n. IsFullSaid (tells n.full n.wanted) saying (number_of said))
-full_said tells asked v saying said journal store None noted is = tt
-full_said tells asked v saying said journal store (Some n) noted is = subst (λ (b : Bool). IsFullSaid b saying (number_of said)) (sym noted.full) (said_by v saying said is)
+pub full_said : {B : Type 0} (says : Bool → Bool → Bool) (tells : B → BucketTold) (v : Verdict) (saying : Saying) (said : Status) (journal : Option (List Entry)) (store : Option B) (told : Option (RunNote B)) → IsNoted says tells v journal store told → IsSaid v saying said → IfSome told (λ n. IsFullSaid (says n.full n.wanted) saying (number_of said))
+full_said says tells v saying said journal store None noted is = tt
+full_said says tells v saying said journal store (Some n) noted is = subst (λ (b : Bool). IsFullSaid b saying (number_of said)) (sym noted.full) (said_by v saying said is)
 
 -- a run whose note is of the world that it left
-pub noted_world : {B : Type 0} (tells : Bool → Bool → Bool) (asked : B → Option (List Call)) (v : Verdict) (world : WorldView B) (full wanted : Bool) (told : Option (RunNote B)) → IsSomeAnd told (Tells full wanted world) → tells full wanted ≡ tells_full v
-    → (wanted ≡ true → v ≡ NoMemory) → (wanted ≡ false → WasAskedAsShown asked world.journal world.bucket) → IsNoted tells asked v (Some world.journal) (Some world.bucket) told
-noted_world tells asked v world full wanted None some is short asks = absurd some
-noted_world {B} tells asked v world full wanted (Some n) some is short asks = record {
+pub noted_world : {B : Type 0} (says : Bool → Bool → Bool) (tells : B → BucketTold) (v : Verdict) (world : WorldView B) (full wanted : Bool) (told : Option (RunNote B)) → IsSomeAnd told (Tells full wanted world) → says full wanted ≡ tells_full v
+    → (wanted ≡ true → v ≡ NoMemory) → (wanted ≡ false → WasAskedAsShown tells world.journal world.bucket) → IsNoted says tells v (Some world.journal) (Some world.bucket) told
+noted_world says tells v world full wanted None some is short asks = absurd some
+noted_world {B} says tells v world full wanted (Some n) some is short asks = record {
   journal_is = ap (λ (w : WorldView B). Some w.journal) (sym some.world_is);
   store_is = ap (λ (w : WorldView B). Some w.bucket) (sym some.world_is);
-  full = ap₂ tells some.full_is some.wanted_is ∙ is;
+  full = ap₂ says some.full_is some.wanted_is ∙ is;
   short = λ so. short (sym some.wanted_is ∙ so);
-  asks = λ never. subst (λ (w : WorldView B). WasAskedAsShown asked w.journal w.bucket) (sym some.world_is) (asks (sym some.wanted_is ∙ never));
+  asks = λ never. subst (λ (w : WorldView B). WasAskedAsShown tells w.journal w.bucket) (sym some.world_is) (asks (sym some.wanted_is ∙ never));
 }
 
 -- memory was wanted for no operation, if that would be told
@@ -71,12 +71,12 @@ short_by true v short is = short refl
 short_by false v short is = absurd (cc (is))
 
 -- the same verdict, journal, bucket and note
-pub noted_as : {B : Type 0} (tells : Bool → Bool → Bool) (asked : B → Option (List Call)) (v w : Verdict) (world : WorldView B) (journal : Option (List Entry)) (store : Option B) (told note : Option (RunNote B)) → w ≡ v → journal ≡ Some world.journal → store ≡ Some world.bucket → note ≡ told
-    → IsNoted tells asked v (Some world.journal) (Some world.bucket) told → IsNoted tells asked w journal store note
-noted_as {B} tells asked v w world journal store told note is kept handed same noted =
-    subst (λ (n : Option (RunNote B)). IsNoted tells asked w journal store n) (sym same)
-    (subst (λ (x : Verdict). IsNoted tells asked x journal store told) (sym is)
-    (subst (λ (o : Option (List Entry)). IsNoted tells asked v o store told) (sym kept) (subst (λ (o : Option B). IsNoted tells asked v (Some world.journal) o told) (sym handed) noted)))
+pub noted_as : {B : Type 0} (says : Bool → Bool → Bool) (tells : B → BucketTold) (v w : Verdict) (world : WorldView B) (journal : Option (List Entry)) (store : Option B) (told note : Option (RunNote B)) → w ≡ v → journal ≡ Some world.journal → store ≡ Some world.bucket → note ≡ told
+    → IsNoted says tells v (Some world.journal) (Some world.bucket) told → IsNoted says tells w journal store note
+noted_as {B} says tells v w world journal store told note is kept handed same noted =
+    subst (λ (n : Option (RunNote B)). IsNoted says tells w journal store n) (sym same)
+    (subst (λ (x : Verdict). IsNoted says tells x journal store told) (sym is)
+    (subst (λ (o : Option (List Entry)). IsNoted says tells v o store told) (sym kept) (subst (λ (o : Option B). IsNoted says tells v (Some world.journal) o told) (sym handed) noted)))
 
 -- ---- a call whose run did not begin
 
@@ -88,15 +88,15 @@ empty_is_not_full : (entries : List Entry) → entries ≡ [] → ¬ IsFull entr
 empty_is_not_full entries none full = empty_not_full (subst IsFull none full)
 
 -- without a note
-pub unnoted : {B : Type 0} (tells : Bool → Bool → Bool) (asked : B → Option (List Call)) (v : Verdict) (journal : Option (List Entry)) (store : Option B) (told : Option (RunNote B)) → told ≡ None → IfSome journal (λ entries. entries ≡ []) → tells_full v ≡ false → IfSome store (WasOnlyOpened asked)
-    → IsNoted tells asked v journal store told
-unnoted tells asked v journal store told none empty other opened = subst (IsNoted tells asked v journal store) (sym none) (empty, other, opened)
+pub unnoted : {B : Type 0} (says : Bool → Bool → Bool) (tells : B → BucketTold) (v : Verdict) (journal : Option (List Entry)) (store : Option B) (told : Option (RunNote B)) → told ≡ None → IfSome journal (λ entries. entries ≡ []) → tells_full v ≡ false → IfSome store (WasOnlyOpened tells)
+    → IsNoted says tells v journal store told
+unnoted says tells v journal store told none empty other opened = subst (IsNoted says tells v journal store) (sym none) (empty, other, opened)
 
 no_entries : (journal : Option (List Entry)) → journal ≡ None → IfSome journal (λ entries. entries ≡ [])
 no_entries journal gone = subst (λ (o : Option (List Entry)). IfSome o (λ entries. entries ≡ [])) (sym gone) tt
 
-pub without_bucket : {B : Type 0} (tells : Bool → Bool → Bool) (asked : B → Option (List Call)) (v : Verdict) (journal : Option (List Entry)) (store : Option B) (told : Option (RunNote B)) → told ≡ None → journal ≡ None → store ≡ None → tells_full v ≡ false → IsNoted tells asked v journal store told
-without_bucket tells asked v journal store told none gone nothing other = unnoted tells asked v journal store told none (no_entries journal gone) other (none_opened asked store nothing)
+pub without_bucket : {B : Type 0} (says : Bool → Bool → Bool) (tells : B → BucketTold) (v : Verdict) (journal : Option (List Entry)) (store : Option B) (told : Option (RunNote B)) → told ≡ None → journal ≡ None → store ≡ None → tells_full v ≡ false → IsNoted says tells v journal store told
+without_bucket says tells v journal store told none gone nothing other = unnoted says tells v journal store told none (no_entries journal gone) other (none_opened tells store nothing)
 
 if_first : (journal : Option (List Entry)) (P : List Entry → Type 0) → IfSome journal (λ entries. (entries ≡ []) × P entries) → IfSome journal (λ entries. entries ≡ [])
 if_first None P both = tt
@@ -114,16 +114,16 @@ never_full : (setting : Setting) (text : List ℕ) (journal : Option (List Entry
 never_full setting text None run = run
 never_full setting text (Some entries) run = empty_is_not_full entries run.0 run.1.full
 
-undone_run : {B : Type 0} (tells : Bool → Bool → Bool) (asked : B → Option (List Call)) (setting : Setting) (before : Option Contents) (failed : Type 0) (journal : Option (List Entry)) (v : Verdict) (store : Option B) (told : Option (RunNote B)) → told ≡ None → IfSome store (WasOnlyOpened asked) → IsRun IsUndone setting before failed journal v → IsNoted tells asked v journal store told
-undone_run tells asked setting before failed journal WordsRefused store told none opened run = absurd run
-undone_run tells asked setting before failed journal SourceFault store told none opened run = absurd run
-undone_run tells asked setting before failed journal (ScriptRefused refusal) store told none opened run = absurd run
-undone_run tells asked setting before failed journal SiteFault store told none opened run = unnoted tells asked SiteFault journal store told none run.1 refl opened
-undone_run tells asked setting before failed journal (NotEmpty name) store told none opened run = unnoted tells asked (NotEmpty name) journal store told none (and_if journal run.1) refl opened
-undone_run tells asked setting before failed journal (Full lines) store told none opened run = absurd (never_full setting lines.items journal run.1)
-undone_run tells asked setting before failed journal (Report lines as_asked) store told none opened run = unnoted tells asked (Report lines as_asked) journal store told none (and_first journal _ run.1) refl opened
-undone_run tells asked setting before failed journal (Checked block outcome) store told none opened run = absurd run
-undone_run tells asked setting before failed journal NoMemory store told none opened run = unnoted tells asked NoMemory journal store told none (if_first journal _ run) refl opened
+undone_run : {B : Type 0} (says : Bool → Bool → Bool) (tells : B → BucketTold) (setting : Setting) (before : Option Contents) (failed : Type 0) (journal : Option (List Entry)) (v : Verdict) (store : Option B) (told : Option (RunNote B)) → told ≡ None → IfSome store (WasOnlyOpened tells) → IsRun IsUndone setting before failed journal v → IsNoted says tells v journal store told
+undone_run says tells setting before failed journal WordsRefused store told none opened run = absurd run
+undone_run says tells setting before failed journal SourceFault store told none opened run = absurd run
+undone_run says tells setting before failed journal (ScriptRefused refusal) store told none opened run = absurd run
+undone_run says tells setting before failed journal SiteFault store told none opened run = unnoted says tells SiteFault journal store told none run.1 refl opened
+undone_run says tells setting before failed journal (NotEmpty name) store told none opened run = unnoted says tells (NotEmpty name) journal store told none (and_if journal run.1) refl opened
+undone_run says tells setting before failed journal (Full lines) store told none opened run = absurd (never_full setting lines.items journal run.1)
+undone_run says tells setting before failed journal (Report lines as_asked) store told none opened run = unnoted says tells (Report lines as_asked) journal store told none (and_first journal _ run.1) refl opened
+undone_run says tells setting before failed journal (Checked block outcome) store told none opened run = absurd run
+undone_run says tells setting before failed journal NoMemory store told none opened run = unnoted says tells NoMemory journal store told none (if_first journal _ run) refl opened
 
 unread_tells : (told left : Option (List ℕ)) (failed : Type 0) (v : Verdict) → IsUnread told left failed v → tells_full v ≡ false
 unread_tells told left failed WordsRefused is = refl
@@ -148,7 +148,7 @@ checked_tells files block failed (Report lines as_asked) is = refl
 checked_tells files block failed (Checked own outcome) is = refl
 checked_tells files block failed NoMemory is = refl
 
-pub undone_noted : {B : Type 0} (tells : Bool → Bool → Bool) (asked : B → Option (List Call)) (around : Around) (v : Verdict) (store : Option B) (told : Option (RunNote B)) → told ≡ None → IfSome store (WasOnlyOpened asked) → IsWorked (record around { is_done = IsUndone }) v → IsNoted tells asked v around.journal store told
-undone_noted tells asked around v store told none opened (inl (unread, gone, unasked)) =
-    unnoted tells asked v around.journal store told none (no_entries around.journal gone) (unread_tells around.text around.left around.source_failed v unread) opened
-undone_noted tells asked around v store told none opened (inr work) = undone_run tells asked work.setting around.before (around.site_failed ⊎ around.shelf_failed) around.journal v store told none opened work.run
+pub undone_noted : {B : Type 0} (says : Bool → Bool → Bool) (tells : B → BucketTold) (around : Around) (v : Verdict) (store : Option B) (told : Option (RunNote B)) → told ≡ None → IfSome store (WasOnlyOpened tells) → IsWorked (record around { is_done = IsUndone }) v → IsNoted says tells v around.journal store told
+undone_noted says tells around v store told none opened (inl (unread, gone, unasked)) =
+    unnoted says tells v around.journal store told none (no_entries around.journal gone) (unread_tells around.text around.left around.source_failed v unread) opened
+undone_noted says tells around v store told none opened (inr work) = undone_run says tells work.setting around.before (around.site_failed ⊎ around.shelf_failed) around.journal v store told none opened work.run

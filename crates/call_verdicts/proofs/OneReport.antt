@@ -13,11 +13,12 @@ use Rattle.std.proofs.lemmas.List.Elements.{All-contains}
 use Rattle.label_sets.specs.declared.series.Series.{Series}
 use Rattle.world_core.specs.declared.entry.Entry.{Entry}
 use Rattle.script_workers.specs.Hands.{gateway_count, gateway_of, hands_of, hands_of_task, places_from, same_hand, seats_after, worker_of, workers_from}
-use Rattle.script_workers.specs.Whose.{IsFor, IsTaskOf, asks, cleans, compacts, ships, syncs}
+use Rattle.script_workers.specs.Whose.{IsFor, IsTaskOf, does_alone, asks, syncs}
 use Rattle.script_workers.specs.declared.hand.Hand.{Hand}
 use Rattle.script_workers.specs.declared.hand.Hand.TheVariants as hands
 use Rattle.script_workers.specs.declared.phase.Phase.{Phase}
 use Rattle.script_workers.specs.declared.task.Task.{Task}
+use Rattle.script_workers.specs.Works.{asks_all}
 use Rattle.script_workers.specs.declared.work.Work.{Work}
 use Rattle.script_workers.specs.declared.work.Work.TheVariants as work
 use Rattle.script_workers.specs.declared.worker.Worker.{Worker}
@@ -32,15 +33,13 @@ use Rattle.vertical_merge.proofs.OneMerge.{one_merge}
 use Rattle.report_lines.specs.lifecycle_core.proofs.phases.HandLists.{Apart, joins_from}
 use Rattle.report_lines.specs.lifecycle_core.proofs.phases.OneCut.{cut_is_unfinished, cuts_tell}
 use Rattle.report_lines.specs.lifecycle_core.proofs.phases.OneEnding.{ends_tell}
-use Rattle.report_lines.specs.script_running.specs.Outcomes.{IsOutcome, IsOutcomeOf, IsPart, IsQueryOutcome, PhasesCame, TaskCame, TasksCame, answers_of, is_as_asked}
+use Rattle.report_lines.specs.script_running.specs.Outcomes.{IsOutcome, IsOutcomeOf, IsPart, IsQueryOutcome, IsWhole, Outcome, OutcomeBy, Part, PhasesCame, TaskCame, TasksCame, answers_of, is_as_asked}
 use Rattle.report_lines.specs.script_running.proofs.GivenParts.{same_parts}
 use Rattle.report_lines.specs.script_running.specs.declared.outcome.NoAnswer.{NoAnswer}
-use Rattle.report_lines.specs.script_running.specs.declared.outcome.Outcome.{Outcome}
-use Rattle.report_lines.specs.script_running.specs.declared.outcome.Outcome.TheVariants as outcome
+use Rattle.report_lines.specs.script_running.specs.declared.came.Came.TheVariants as outcome
 use Rattle.report_lines.specs.script_running.specs.declared.outcome.QueryOutcome.{QueryOutcome}
 use Rattle.report_lines.specs.script_running.specs.declared.outcome.QueryOutcome.TheVariants as query
-use Rattle.report_lines.specs.script_running.specs.declared.part.Part.{Part}
-use Rattle.report_lines.specs.script_running.specs.declared.part.QueryPart.{QueryPart}
+use Rattle.report_lines.specs.script_running.specs.declared.outcome.QueryPart.{QueryPart}
 use Rattle.querier.specs.Gathered.{IsGathered, gathered_samples}
 use Rattle.querier.specs.declared.answer.Answer.{Answer}
 use Rattle.querier.specs.declared.answer.Names.{Names}
@@ -70,11 +69,9 @@ zip_once (p ∷ ps) (x ∷ own) place one other up a b =
 
 module _ (gateways : ℕ) (tasks : List Task) where
   alone_at : (own place : ℕ) (w : Work) → IsFor gateways (hands.Alone own) place w → own ≡ place
-  alone_at own place w (ships ulid stop is hand) = cc (hand)
+  alone_at own place w (does_alone none apart hand) = cc (hand)
   alone_at own place w (syncs gateway is hand) = absurd (cc (hand))
-  alone_at own place w (compacts stop is hand) = cc (hand)
-  alone_at own place w (cleans stop is hand) = cc (hand)
-  alone_at own place w (asks low high selector gateway is hand below) = absurd (cc (hand))
+  alone_at own place w (asks gateway is hand below) = absurd (cc (hand))
 
   hand_by : (one other : Hand) (place : ℕ) (w v : Work) → gateway_of one ≡ gateway_of other → IsFor gateways one place w → IsFor gateways other place v → one ≡ other
   hand_by (hands.Alone a) (hands.Alone b) place w v same is so = ap hands.Alone (alone_at a place w is ∙ sym (alone_at b place v so))
@@ -193,18 +190,26 @@ query_once own (query.Answer one names) (query.Answer other others) is so =
     ap (λ (x : Answer). query.Answer x names) (answer_once (answers_of own) one other is.1 so.1)
     ∙ ap (λ (l : List Names). query.Answer other l) (is.2 ∙ sym so.2)
 
-of_once : (w : Work) (parts : List Part) (one other : Outcome) → IsOutcomeOf w parts one → IsOutcomeOf w parts other → one ≡ other
-of_once (work.Upload ulid stop) parts one other (end, is, o) (also, so, p) =
-    let same : end ≡ also = cc (is, so) in o ∙ ap outcome.Upload same ∙ sym p
-of_once (work.Sync gateway) parts one other (end, is, o) (also, so, p) =
-    let same : end ≡ also = cc (is, so) in o ∙ ap outcome.Sync same ∙ sym p
-of_once (work.Compact stop) parts one other (end, is, o) (also, so, p) =
-    let same : end ≡ also = cc (is, so) in o ∙ ap outcome.Compact same ∙ sym p
-of_once (work.Clean stop) parts one other (end, is, o) (also, so, p) =
-    let same : end ≡ also = cc (is, so) in o ∙ ap outcome.Clean same ∙ sym p
-of_once (work.Query low high selector) parts one other (own, end, are, is, o) (too, also, so_are, so, p) =
+whole_once : (part : Part) (one other : Outcome) → IsWhole part one → IsWhole part other → one ≡ other
+whole_once (outcome.Upload end) one other is so = is ∙ sym so
+whole_once (outcome.Unshipped cause) one other is so = is ∙ sym so
+whole_once (outcome.Sync end) one other is so = is ∙ sym so
+whole_once (outcome.Compact end) one other is so = is ∙ sym so
+whole_once (outcome.Clean end) one other is so = is ∙ sym so
+whole_once (outcome.Query own) one other is so = absurd is
+
+alone_once : (parts : List Part) (own too : Part) (one other : Outcome) → parts ≡ own ∷ [] → parts ≡ too ∷ [] → IsWhole own one → IsWhole too other → one ≡ other
+alone_once parts own too one other are also is so =
+    let same : own ≡ too = cc (are, also) in whole_once own one other is (subst (λ (p : Part). IsWhole p other) (sym same) so)
+
+once_by : (all : Bool) (parts : List Part) (one other : Outcome) → OutcomeBy all parts one → OutcomeBy all parts other → one ≡ other
+once_by false parts one other (own, are, is) (too, also, so) = alone_once parts own too one other are also is so
+once_by true parts one other (own, end, are, is, o) (too, also, so_are, so, p) =
     let same : own ≡ too = same_parts own too (sym are ∙ so_are) in
     o ∙ ap outcome.Query (query_once own end also is (subst (λ (l : List QueryPart). IsQueryOutcome l also) (sym same) so)) ∙ sym p
+
+of_once : (w : Work) (parts : List Part) (one other : Outcome) → IsOutcomeOf w parts one → IsOutcomeOf w parts other → one ≡ other
+of_once w parts one other is so = once_by (asks_all w) parts one other is so
 
 pub outcome_once : (w : Work) (own : List End) (one other : Outcome) → IsOutcome w own one → IsOutcome w own other → one ≡ other
 outcome_once w own one other (parts, zipped, of) (others, also, so) =

@@ -1,8 +1,9 @@
 -- What a call asked of its shelf, from the readings of a check outwards to the whole call.
 use Rattle.std.proofs.Common.{◌≡◌, inl, inr, ℕ, ◌<◌, List, [], sym, ◌∙◌, ap, subst, arith}
-use Rattle.std.specs.Prelude.{Option, Some, None, IfSome, is_some, Result}
+use Rattle.std.specs.Prelude.{Option, Some, None, IfSome, is_some, option_map, Result}
 use Rattle.bucket_core.specs.Asking.{Asks}
 use Rattle.bucket_core.specs.Contents.{Contents}
+use Rattle.bucket_core.specs.Told.{ShelfTold, SiteTold, next_shelf}
 use Rattle.block_content.specs.declared.check_refusal.CheckRefusal.{CheckRefusal}
 use Rattle.block_content.specs.declared.checked.Checked.{Checked as CheckedBlock}
 use Rattle.block_loading.specs.Loading.{Reaches, key_after, names_read}
@@ -10,37 +11,38 @@ use Rattle.block_loading.specs.LoadReading.{AsksInOrder, WasBrokenOff}
 use Rattle.block_loading.specs.declared.load_refusal.LoadRefusal.{LoadRefusal}
 use Rattle.block_loading.proofs.Asked.{asks_none, asks_then}
 use Rattle.call_verdicts.specs.CheckVerdicts.{verdict_on}
-use Rattle.call_verdicts.specs.Checks.{files_in, files_of}
+use Rattle.call_verdicts.specs.Checks.{files_held, files_in, files_of}
 use Rattle.call_verdicts.specs.Kept.{IsShelfBack, told_of}
-use Rattle.call_verdicts.specs.Asked.{IsBroken, IsUndecided, WasAsked, WasAskedFor, WasChecked, WasReadFor}
+use Rattle.call_verdicts.specs.Asked.{IsBroken, IsUndecided, names_asked, WasAsked, WasAskedFor, WasChecked, WasReadFor}
 use Rattle.call_verdicts.specs.Statuses.{number_of}
 use Rattle.call_verdicts.specs.Verdicts.{IsSaid, Saying, status_of}
 use Rattle.call_verdicts.specs.declared.status.Status.{Status}
 use Rattle.call_verdicts.specs.declared.verdict.Verdict.{Verdict}
+use Rattle.call_verdicts.proofs.FilesTold.{files_back}
 use Rattle.call_verdicts.proofs.HandedBack.{if_map}
 use Rattle.call_verdicts.proofs.Verdicts.{if_told}
 use Rattle.call_verdicts.proofs.ShelfReads.{if_any}
 
 -- ---- one shelf
 
-module _ {F : Type 0} (asked : F → Option (List (List ℕ))) where
-  pub just_opened : (shelf : F) → IfSome (asked shelf) (λ before. before ≡ []) → WasAsked asked [] shelf
-  just_opened shelf fresh = (shelf, fresh, asks_none asked shelf)
+module _ {F : Type 0} (tells : F → ShelfTold) where
+  pub just_opened : (shelf : F) → IfSome (tells shelf).asked (λ before. before ≡ []) → WasAsked (names_asked tells) [] shelf
+  just_opened shelf fresh = (shelf, fresh, asks_none tells shelf)
 
-  asked_since : (old new : F) (names : List (List ℕ)) → WasAsked asked [] old → Asks asked old new names → WasAsked asked names new
-  asked_since old new names (opened, fresh, first) since = (opened, fresh, asks_then asked opened old new [] names first since)
+  asked_since : (old new : F) (names : List (List ℕ)) → WasAsked (names_asked tells) [] old → Asks (tells old).asked (tells new).asked names → WasAsked (names_asked tells) names new
+  asked_since old new names (opened, fresh, first) since = (opened, fresh, asks_then tells opened old new [] names first since)
 
-  pub checked_since : {X : Type 0} (files : F → Option Contents) (faults : F → ℕ) (old new : F) (ulid : ℕ) (Stops : ℕ → CheckRefusal → Type 0) (segments : X → List (List ℕ)) (result : Result X LoadRefusal) (broken : Type 0)
-      → AsksInOrder files asked faults old new ulid Stops segments result → (WasBrokenOff result → broken) → WasAsked asked [] old → WasChecked asked (files old) ulid broken new
-  checked_since files faults old new ulid Stops segments result broken a off was = record {
+  pub checked_since : {X : Type 0} (old new : F) (ulid : ℕ) (Stops : ℕ → CheckRefusal → Type 0) (segments : X → List (List ℕ)) (result : Result X LoadRefusal) (broken : Type 0)
+      → AsksInOrder tells old new ulid Stops segments result → (WasBrokenOff result → broken) → WasAsked (names_asked tells) [] old → WasChecked tells (tells old).files ulid broken new
+  checked_since old new ulid Stops segments result broken a off was = record {
     count = a.count;
     names = asked_since old new (names_read ulid a.count) was a.names;
-    reached = if_any (files old) (λ c. (place : ℕ) → place < a.count → Reaches c ulid (key_after ulid place)) a.reached;
-    all = if_any (files old) (λ c. Reaches c ulid (key_after ulid a.count) → broken) (λ c told more. off (a.all c told more));
+    reached = if_any (tells old).files (λ c. (place : ℕ) → place < a.count → Reaches c ulid (key_after ulid place)) a.reached;
+    all = if_any (tells old).files (λ c. Reaches c ulid (key_after ulid a.count) → broken) (λ c told more. off (a.all c told more));
   }
 
   -- what was told before is told of the shelf
-  told_before : (before told : Option Contents) (ulid : ℕ) (broken : Type 0) (shelf : F) → IfSome before (λ c. told ≡ Some c) → WasChecked asked told ulid broken shelf → WasChecked asked before ulid broken shelf
+  told_before : (before told : Option Contents) (ulid : ℕ) (broken : Type 0) (shelf : F) → IfSome before (λ c. told ≡ Some c) → WasChecked tells told ulid broken shelf → WasChecked tells before ulid broken shelf
   told_before before told ulid broken shelf same was = record {
     count = was.count;
     names = was.names;
@@ -48,14 +50,12 @@ module _ {F : Type 0} (asked : F → Option (List (List ℕ))) where
     all = if_told (λ c. Reaches c ulid (key_after ulid was.count) → broken) before told same was.all;
   }
 
-  pub checked_opened : (files : F → Option Contents) (told : List ℕ → Option Contents) (word : Option (List ℕ)) (shelf : Option F) (ulid : ℕ) (broken : Type 0) (after : F) → is_some shelf ≡ is_some word → IsShelfBack (told_of told word) files shelf
-      → WasChecked asked (files_in files shelf) ulid broken after → WasChecked asked (files_of told word) ulid broken after
-  checked_opened files told None None ulid broken after named back was = was
-  checked_opened files told (Some name) None ulid broken after named back was = absurd (cc named)
-  checked_opened files told None (Some s) ulid broken after named back was = absurd (cc named)
-  checked_opened files told (Some name) (Some s) ulid broken after named back was = told_before (told name) (files s) ulid broken after back was
+  pub checked_opened : (site : SiteTold) (word : Option (List ℕ)) (shelf now : Option F) (ulid : ℕ) (broken : Type 0) (after : F) → is_some shelf ≡ is_some word → IsShelfBack (told_of (next_shelf site) word) tells shelf
+      → option_map (files_held tells) now ≡ option_map (files_held tells) shelf → WasChecked tells (files_in tells shelf) ulid broken after → WasChecked tells (files_of tells site word now) ulid broken after
+  checked_opened site word shelf now ulid broken after named back same was =
+      told_before (files_of tells site word now) (files_in tells shelf) ulid broken after (files_back tells site word shelf now named back same) was
 
-  broken_more : (told : Option Contents) (text : Option (List ℕ)) (block : Option ℕ) (broken other : Type 0) (shelf : F) → (broken → other) → WasAskedFor asked told text block broken shelf → WasAskedFor asked told text block other shelf
+  broken_more : (told : Option Contents) (text : Option (List ℕ)) (block : Option ℕ) (broken other : Type 0) (shelf : F) → (broken → other) → WasAskedFor tells told text block broken shelf → WasAskedFor tells told text block other shelf
   broken_more told text None broken other shelf more was = was
   broken_more told text (Some ulid) broken other shelf more was = record {
     count = was.count;
@@ -66,27 +66,27 @@ module _ {F : Type 0} (asked : F → Option (List (List ℕ))) where
 
   -- ---- the shelf of a call, if there is one
 
-  pub all_opened : (files : F → Option Contents) (told : List ℕ → Option Contents) (word : Option (List ℕ)) (shelf after : Option F) (ulid : ℕ) (v verdict : Verdict) → is_some shelf ≡ is_some word → IsShelfBack (told_of told word) files shelf → verdict ≡ v
-      → IfSome after (WasChecked asked (files_in files shelf) ulid (IsBroken v)) → IfSome after (WasChecked asked (files_of told word) ulid (IsBroken verdict))
-  all_opened files told word shelf after ulid v verdict named back same was =
-      subst (λ (x : Verdict). IfSome after (WasChecked asked (files_of told word) ulid (IsBroken x))) (sym same)
-      (if_map after (WasChecked asked (files_in files shelf) ulid (IsBroken v)) (WasChecked asked (files_of told word) ulid (IsBroken v)) (λ s. checked_opened files told word shelf ulid (IsBroken v) s named back) was)
+  pub all_opened : (site : SiteTold) (word : Option (List ℕ)) (shelf after : Option F) (ulid : ℕ) (v verdict : Verdict) → is_some shelf ≡ is_some word → IsShelfBack (told_of (next_shelf site) word) tells shelf
+      → option_map (files_held tells) after ≡ option_map (files_held tells) shelf → verdict ≡ v → IfSome after (WasChecked tells (files_in tells shelf) ulid (IsBroken v)) → IfSome after (WasChecked tells (files_of tells site word after) ulid (IsBroken verdict))
+  all_opened site word shelf after ulid v verdict named back held same was =
+      subst (λ (x : Verdict). IfSome after (WasChecked tells (files_of tells site word after) ulid (IsBroken x))) (sym same)
+      (if_map after (WasChecked tells (files_in tells shelf) ulid (IsBroken v)) (WasChecked tells (files_of tells site word after) ulid (IsBroken v)) (λ s. checked_opened site word shelf after ulid (IsBroken v) s named back held) was)
 
-  pub some_checked : (files : F → Option Contents) (shelf : Option F) (s after : F) (ulid : ℕ) (broken : Type 0) → shelf ≡ Some s → (WasAsked asked [] s → WasChecked asked (files s) ulid broken after)
-      → IfSome shelf (WasAsked asked []) → WasChecked asked (files_in files shelf) ulid broken after
-  some_checked files shelf s after ulid broken is checks was =
-      subst (λ (o : Option F). WasChecked asked (files_in files o) ulid broken after) (sym is) (checks (subst (λ (o : Option F). IfSome o (WasAsked asked [])) is was))
+  pub some_checked : (shelf : Option F) (s after : F) (ulid : ℕ) (broken : Type 0) → shelf ≡ Some s → (WasAsked (names_asked tells) [] s → WasChecked tells (tells s).files ulid broken after)
+      → IfSome shelf (WasAsked (names_asked tells) []) → WasChecked tells (files_in tells shelf) ulid broken after
+  some_checked shelf s after ulid broken is checks was =
+      subst (λ (o : Option F). WasChecked tells (files_in tells o) ulid broken after) (sym is) (checks (subst (λ (o : Option F). IfSome o (WasAsked (names_asked tells) [])) is was))
 
   -- where the words name no block
-  pub run_asked : (told : Option Contents) (text : Option (List ℕ)) (block : Option ℕ) (broken : Type 0) (shelf : Option F) → None ≡ block → IfSome shelf (WasReadFor asked text) → IfSome shelf (WasAskedFor asked told text block broken)
-  run_asked told text block broken shelf none was = subst (λ (b : Option ℕ). IfSome shelf (WasAskedFor asked told text b broken)) none was
+  pub run_asked : (told : Option Contents) (text : Option (List ℕ)) (block : Option ℕ) (broken : Type 0) (shelf : Option F) → None ≡ block → IfSome shelf (WasReadFor tells text) → IfSome shelf (WasAskedFor tells told text block broken)
+  run_asked told text block broken shelf none was = subst (λ (b : Option ℕ). IfSome shelf (WasAskedFor tells told text b broken)) none was
 
   -- where they name one
-  pub check_asked : (told : List ℕ → Option Contents) (text word other : Option (List ℕ)) (ulid : ℕ) (block : Option ℕ) (broken : Type 0) (shelf : Option F) → word ≡ other → Some ulid ≡ block
-      → IfSome shelf (WasChecked asked (files_of told word) ulid broken) → IfSome shelf (WasAskedFor asked (files_of told other) text block broken)
-  check_asked told text word other ulid block broken shelf same is was =
-      subst (λ (w : Option (List ℕ)). IfSome shelf (WasAskedFor asked (files_of told w) text block broken)) same
-      (subst (λ (b : Option ℕ). IfSome shelf (WasAskedFor asked (files_of told word) text b broken)) is was)
+  pub check_asked : (site : SiteTold) (text word other : Option (List ℕ)) (ulid : ℕ) (block : Option ℕ) (broken : Type 0) (shelf : Option F) → word ≡ other → Some ulid ≡ block
+      → IfSome shelf (WasChecked tells (files_of tells site word shelf) ulid broken) → IfSome shelf (WasAskedFor tells (files_of tells site other shelf) text block broken)
+  check_asked site text word other ulid block broken shelf same is was =
+      subst (λ (w : Option (List ℕ)). IfSome shelf (WasAskedFor tells (files_of tells site w shelf) text block broken)) same
+      (subst (λ (b : Option ℕ). IfSome shelf (WasAskedFor tells (files_of tells site word shelf) text b broken)) is was)
 
 -- ---- the verdict, and the status
 
@@ -111,8 +111,8 @@ undecided v saying result (inl (is, added)) off = let n = ap number_of is in let
 undecided v saying result (inr (inl (is, other, rose, part))) off = not_sink (number_of result) (ap number_of is)
 undecided v saying result (inr (inr (is, mute, kept, same))) off = let n : number_of result ≡ 6 = ap number_of is in not_decided (number_of result) (omega (arith, n))
 
-pub call_asked : {F : Type 0} (asked : F → Option (List (List ℕ))) (told : Option Contents) (text : Option (List ℕ)) (block : Option ℕ) (shelf : Option F) (v : Verdict) (saying : Saying) (result : Status) → IsSaid v saying result
-    → IfSome shelf (WasAskedFor asked told text block (IsBroken v)) → IfSome shelf (WasAskedFor asked told text block (IsUndecided (number_of result)))
-call_asked asked told text block shelf v saying result said was =
-    if_map shelf (WasAskedFor asked told text block (IsBroken v)) (WasAskedFor asked told text block (IsUndecided (number_of result)))
-    (λ s one. broken_more asked told text block (IsBroken v) (IsUndecided (number_of result)) s (undecided v saying result said) one) was
+pub call_asked : {F : Type 0} (tells : F → ShelfTold) (told : Option Contents) (text : Option (List ℕ)) (block : Option ℕ) (shelf : Option F) (v : Verdict) (saying : Saying) (result : Status) → IsSaid v saying result
+    → IfSome shelf (WasAskedFor tells told text block (IsBroken v)) → IfSome shelf (WasAskedFor tells told text block (IsUndecided (number_of result)))
+call_asked tells told text block shelf v saying result said was =
+    if_map shelf (WasAskedFor tells told text block (IsBroken v)) (WasAskedFor tells told text block (IsUndecided (number_of result)))
+    (λ s one. broken_more tells told text block (IsBroken v) (IsUndecided (number_of result)) s (undecided v saying result said) one) was

@@ -21,6 +21,7 @@ use Rattle.block_loading.specs.Loading.{AreWithinLimit, IsLoaded, PassesOnShelf,
 use Rattle.block_loading.proofs.Asked.{asks_then}
 use Rattle.bucket_core.specs.Asking.{Asks}
 use Rattle.bucket_core.specs.Contents.{Contents, nothing}
+use Rattle.bucket_core.specs.Told.{ShelfTold, SiteTold, next_shelf}
 use Rattle.script_core.specs.Lawful.{IsLawfulScript}
 use Rattle.script_core.specs.Reading.{script_of}
 use Rattle.script_core.specs.declared.block.Block.{Block}
@@ -33,12 +34,13 @@ use Rattle.report_lines.specs.script_running.specs.Shelves.{AreAllAtHand, AreObj
 use Rattle.report_lines.specs.script_running.specs.declared.shelf.ShelfBlock.{ShelfBlock}
 use Rattle.report_lines.specs.script_running.specs.declared.shelf.ShelfFound.{ShelfFound}
 use Rattle.report_lines.specs.script_running.specs.declared.shelf.ShelfFound.TheVariants.{Objects, Refused}
-use Rattle.call_verdicts.specs.Asked.{AreNamesOf, WasAsked, WasRead, WasReadFor, is_on_shelf, shelf_ulids}
-use Rattle.call_verdicts.specs.Checks.{HasFailed, files_in, files_of}
+use Rattle.call_verdicts.specs.Asked.{names_asked, AreNamesOf, WasAsked, WasRead, WasReadFor, is_on_shelf, shelf_ulids}
+use Rattle.call_verdicts.specs.Checks.{HasFailed, files_held, files_in, files_of}
 use Rattle.call_verdicts.specs.Kept.{IsShelfBack, told_of}
 use Rattle.call_verdicts.specs.ShelfReads.{AreRead, AsksFor, IsBrokenOff, IsFoundOf, IsOfShelf, IsReadBy, IsReadNext, IsReadOf, WhyUnread}
 use Rattle.call_verdicts.specs.Verdicts.{IfShort, IsScriptRead}
 use Rattle.call_verdicts.specs.declared.verdict.Verdict.{Verdict}
+use Rattle.call_verdicts.proofs.FilesTold.{files_back}
 use Rattle.call_verdicts.proofs.Unfailed.{short_of}
 use Rattle.call_verdicts.proofs.Verdicts.{if_told}
 
@@ -69,25 +71,25 @@ no_ulid_by block OnShelf is other = absurd (other refl)
 no_ulid : (block : Block) → block.body ≢ OnShelf → shelf_ulids (block ∷ []) ≡ []
 no_ulid block other = no_ulid_by block block.body refl other
 
-module _ {F : Type 0} (asked : F → Option (List (List ℕ))) where
-  since : (old new : F) (front names : List (List ℕ)) → WasAsked asked front old → Asks asked old new names → WasAsked asked (front ++ names) new
-  since old new front names (opened, fresh, first) later = (opened, fresh, asks_then asked opened old new front names first later)
+module _ {F : Type 0} (tells : F → ShelfTold) where
+  since : (old new : F) (front names : List (List ℕ)) → WasAsked (names_asked tells) front old → Asks (tells old).asked (tells new).asked names → WasAsked (names_asked tells) (front ++ names) new
+  since old new front names (opened, fresh, first) later = (opened, fresh, asks_then tells opened old new front names first later)
 
   -- one block more was read
-  pub read_more : (front : List Block) (block : Block) (old new : F) → WasRead asked (shelf_ulids front) old → AsksFor asked old new block → WasRead asked (shelf_ulids (front ++ block ∷ [])) new
+  pub read_more : (front : List Block) (block : Block) (old new : F) → WasRead tells (shelf_ulids front) old → AsksFor tells old new block → WasRead tells (shelf_ulids (front ++ block ∷ [])) new
   read_more front block old new (names, are, was) (inl (other, none)) =
       let same : shelf_ulids (front ++ block ∷ []) ≡ shelf_ulids front =
       next_ulids front block ∙ ap (λ (l : List ℕ). shelf_ulids front ++ l) (no_ulid block other) ∙ append-nil (shelf_ulids front) in
-      subst (λ (us : List ℕ). WasRead asked us new) (sym same)
-      (names, are, subst (λ (ns : List (List ℕ)). WasAsked asked ns new) (append-nil names) (since old new names [] was none))
+      subst (λ (us : List ℕ). WasRead tells us new) (sym same)
+      (names, are, subst (λ (ns : List (List ℕ)). WasAsked (names_asked tells) ns new) (append-nil names) (since old new names [] was none))
   read_more front block old new (names, are, was) (inr (is, count, asks)) =
       let same : shelf_ulids (front ++ block ∷ []) ≡ shelf_ulids front ++ block.ulid ∷ [] =
       next_ulids front block ∙ ap (λ (l : List ℕ). shelf_ulids front ++ l) (own_ulid block is) in
-      subst (λ (us : List ℕ). WasRead asked us new) (sym same)
+      subst (λ (us : List ℕ). WasRead tells us new) (sym same)
       (names ++ names_read block.ulid count, one_more (shelf_ulids front) names block.ulid count are, since old new names (names_read block.ulid count) was asks)
 
   -- nothing was read yet
-  pub read_none : (ulids : List ℕ) (shelf : F) → WasAsked asked [] shelf → WasRead asked ulids shelf
+  pub read_none : (ulids : List ℕ) (shelf : F) → WasAsked (names_asked tells) [] shelf → WasRead tells ulids shelf
   read_none ulids shelf was = ([], none_named ulids, was)
 
   -- what was read of some first blocks is of all, of which none more were read
@@ -100,14 +102,14 @@ module _ {F : Type 0} (asked : F → Option (List (List ℕ))) where
       ap (map (λ (b : Block). b.ulid)) (filter-append (λ (b : Block). is_on_shelf b.body) front back)
       ∙ map-append (λ (b : Block). b.ulid) (filter (λ (b : Block). is_on_shelf b.body) front) (filter (λ (b : Block). is_on_shelf b.body) back)
 
-  pub read_front : (blocks : List Block) (place : ℕ) (shelf : F) → WasRead asked (shelf_ulids (take place blocks)) shelf → WasRead asked (shelf_ulids blocks) shelf
+  pub read_front : (blocks : List Block) (place : ℕ) (shelf : F) → WasRead tells (shelf_ulids (take place blocks)) shelf → WasRead tells (shelf_ulids blocks) shelf
   read_front blocks place shelf (names, are, was) =
       let parts : shelf_ulids blocks ≡ shelf_ulids (take place blocks) ++ shelf_ulids (drop place blocks) =
       ap shelf_ulids (sym (take-append-drop place blocks)) ∙ all_ulids (take place blocks) (drop place blocks) in
       (names, subst (λ (us : List ℕ). AreNamesOf us names) (sym parts) (all_named (shelf_ulids (take place blocks)) (shelf_ulids (drop place blocks)) names are), was)
 
   -- what was read of some first blocks of a part is of the whole part
-  pub read_begun : (front part : List Block) (place : ℕ) (shelf : F) → WasRead asked (shelf_ulids (front ++ take place part)) shelf → WasRead asked (shelf_ulids (front ++ part)) shelf
+  pub read_begun : (front part : List Block) (place : ℕ) (shelf : F) → WasRead tells (shelf_ulids (front ++ take place part)) shelf → WasRead tells (shelf_ulids (front ++ part)) shelf
   read_begun front part place shelf (names, are, was) =
       let some = front ++ take place part in
       let parts : shelf_ulids (front ++ part) ≡ shelf_ulids some ++ shelf_ulids (drop place part) =
@@ -115,7 +117,7 @@ module _ {F : Type 0} (asked : F → Option (List (List ℕ))) where
       (names, subst (λ (us : List ℕ). AreNamesOf us names) (sym parts) (all_named (shelf_ulids some) (shelf_ulids (drop place part)) names are), was)
 
   -- by a text that spells the script
-  pub read_for : (text left : Option (List ℕ)) (script : Script) (shelf : F) → IsScriptRead text left script → WasRead asked (shelf_ulids script.blocks) shelf → WasReadFor asked text shelf
+  pub read_for : (text left : Option (List ℕ)) (script : Script) (shelf : F) → IsScriptRead text left script → WasRead tells (shelf_ulids script.blocks) shelf → WasReadFor tells text shelf
   read_for None left script shelf read was = (script, tt, was)
   read_for (Some bytes) left script shelf (own, whole, is) was = (script, ap script_of (sym whole.0) ∙ is, was)
 
@@ -246,17 +248,12 @@ none_told script =
 
 -- ---- the shelf of a call
 
-of_word : {F : Type 0} (files : F → Option Contents) (told : List ℕ → Option Contents) (word : Option (List ℕ)) (shelf : Option F) (P : Contents → Type 0) → is_some shelf ≡ is_some word → IsShelfBack (told_of told word) files shelf
-    → IfSome (files_in files shelf) P → IfSome (files_of told word) P
-of_word files told None None P named back holds = holds
-of_word files told (Some name) None P named back holds = absurd (cc named)
-of_word files told None (Some s) P named back holds = absurd (cc named)
-of_word files told (Some name) (Some s) P named back holds = if_told P (told name) (files s) back holds
-
-pub told_of_call : {F : Type 0} (files : F → Option Contents) (told : List ℕ → Option Contents) (word : Option (List ℕ)) (shelf : Option F) (script : Script) (read : Result (List ShelfBlock) Verdict) → is_some shelf ≡ is_some word
-    → IsShelfBack (told_of told word) files shelf → IfOk read (λ blocks. IfSome (files_in files shelf) (IsOfShelf (setting_by script blocks))) → IfOk read (λ blocks. IfSome (files_of told word) (IsOfShelf (setting_by script blocks)))
-told_of_call files told word shelf script (Ok blocks) named back holds = of_word files told word shelf (IsOfShelf (setting_by script blocks)) named back holds
-told_of_call files told word shelf script (Err v) named back holds = tt
+pub told_of_call : {F : Type 0} (tells : F → ShelfTold) (site : SiteTold) (word : Option (List ℕ)) (shelf after : Option F) (script : Script) (read : Result (List ShelfBlock) Verdict) → is_some shelf ≡ is_some word
+    → IsShelfBack (told_of (next_shelf site) word) tells shelf → option_map (files_held tells) after ≡ option_map (files_held tells) shelf → IfOk read (λ blocks. IfSome (files_in tells shelf) (IsOfShelf (setting_by script blocks)))
+    → IfOk read (λ blocks. IfSome (files_of tells site word after) (IsOfShelf (setting_by script blocks)))
+told_of_call tells site word shelf after script (Ok blocks) named back same holds =
+    if_told (IsOfShelf (setting_by script blocks)) (files_of tells site word after) (files_in tells shelf) (files_back tells site word shelf after named back same) holds
+told_of_call tells site word shelf after script (Err v) named back same holds = tt
 
 -- ---- results
 
@@ -277,16 +274,16 @@ pub told_read : (script : Script) (told : Option Contents) (r : Result (List She
 told_read script told (Ok read) lawful are = all_told told script read lawful are
 told_read script told (Err v) lawful are = tt
 
-why_off : {F : Type 0} (faults : F → ℕ) (old new : F) (v : Verdict) → WhyUnread (faults old) (faults new) v → IsBrokenOff (HasFailed faults (Some old) (Some new)) v
-why_off faults old new v (inl (is, rose)) = inl (is, rose)
-why_off faults old new v (inr (is, same)) = inr is
+why_off : {F : Type 0} (tells : F → ShelfTold) (old new : F) (v : Verdict) → WhyUnread (tells old).faults (tells new).faults v → IsBrokenOff (HasFailed tells (Some old) (Some new)) v
+why_off tells old new v (inl (is, rose)) = inl (is, rose)
+why_off tells old new v (inr (is, same)) = inr is
 
-off_read : {F X : Type 0} (faults : F → ℕ) (old new : F) (r : Result X Verdict) → IfErr r (WhyUnread (faults old) (faults new)) → IfErr r (IsBrokenOff (HasFailed faults (Some old) (Some new)))
-off_read faults old new (Ok x) broken = tt
-off_read faults old new (Err v) broken = why_off faults old new v broken
+off_read : {F X : Type 0} (tells : F → ShelfTold) (old new : F) (r : Result X Verdict) → IfErr r (WhyUnread (tells old).faults (tells new).faults) → IfErr r (IsBrokenOff (HasFailed tells (Some old) (Some new)))
+off_read tells old new (Ok x) broken = tt
+off_read tells old new (Err v) broken = why_off tells old new v broken
 
-pub broken_read : {F X : Type 0} (faults : F → ℕ) (shelf : Option F) (old new : F) (r : Result X Verdict) → shelf ≡ Some old → IfErr r (WhyUnread (faults old) (faults new)) → IfErr r (IsBrokenOff (HasFailed faults shelf (Some new)))
-broken_read {F} {X} faults shelf old new r is broken = subst (λ (o : Option F). IfErr r (IsBrokenOff (HasFailed faults o (Some new)))) (sym is) (off_read faults old new r broken)
+pub broken_read : {F X : Type 0} (tells : F → ShelfTold) (shelf : Option F) (old new : F) (r : Result X Verdict) → shelf ≡ Some old → IfErr r (WhyUnread (tells old).faults (tells new).faults) → IfErr r (IsBrokenOff (HasFailed tells shelf (Some new)))
+broken_read {F} {X} tells shelf old new r is broken = subst (λ (o : Option F). IfErr r (IsBrokenOff (HasFailed tells o (Some new)))) (sym is) (off_read tells old new r broken)
 
 calm_off : (before after : ℕ) (v : Verdict) → WhyUnread before after v → before ≡ 0 → IfShort v (after ≡ 0)
 calm_off before after v (inl (is, rose)) none = subst (λ (w : Verdict). IfShort w (after ≡ 0)) (sym is) tt
@@ -296,9 +293,9 @@ calm_so : {X : Type 0} (before after : ℕ) (r : Result X Verdict) → IfOk r (�
 calm_so before after (Ok x) calm broken none = calm ∙ none
 calm_so before after (Err v) calm broken none = calm_off before after v broken none
 
-pub calm_read : {F X : Type 0} (faults : F → ℕ) (shelf : Option F) (old new : F) (r : Result X Verdict) → shelf ≡ Some old → IfOk r (λ x. faults new ≡ faults old) → IfErr r (WhyUnread (faults old) (faults new))
-    → IfSome shelf (λ s. faults s ≡ 0) → MatchResult r (λ x. faults new ≡ 0) (λ v. IfShort v (faults new ≡ 0))
-calm_read {F} {X} faults shelf old new r is calm broken none = calm_so (faults old) (faults new) r calm broken (subst (λ (o : Option F). IfSome o (λ s. faults s ≡ 0)) is none)
+pub calm_read : {F X : Type 0} (tells : F → ShelfTold) (shelf : Option F) (old new : F) (r : Result X Verdict) → shelf ≡ Some old → IfOk r (λ x. (tells new).faults ≡ (tells old).faults) → IfErr r (WhyUnread (tells old).faults (tells new).faults)
+    → IfSome shelf (λ s. (tells s).faults ≡ 0) → MatchResult r (λ x. (tells new).faults ≡ 0) (λ v. IfShort v ((tells new).faults ≡ 0))
+calm_read {F} {X} tells shelf old new r is calm broken none = calm_so (tells old).faults (tells new).faults r calm broken (subst (λ (o : Option F). IfSome o (λ s. (tells s).faults ≡ 0)) is none)
 
 -- ---- one block of the shelf
 

@@ -2,6 +2,7 @@
 use Rattle.std.proofs.Common.{◌≡◌, ◌≢◌, ℕ, false, List, [], refl, sym, ◌∙◌, ap, subst}
 use Rattle.std.specs.Prelude.{Option, Some, None, IfSome, Result, Ok, Err}
 use Rattle.bucket_core.specs.declared.site_refusal.SiteRefusal.{SiteRefusal}
+use Rattle.bucket_core.specs.Told.{BucketTold}
 use Rattle.bucket_core.specs.declared.site_refusal.SiteRefusal.TheVariants as site
 use Rattle.world_core.specs.Worlds.{WorldGoesOn, WorldView, failed_count}
 use Rattle.world_core.specs.declared.entry.Entry.{Entry}
@@ -58,38 +59,38 @@ short_unopened unopened.NoMemory v P failed holds = short_of v P (holds (λ is. 
 
 -- ---- buckets
 
-unfailed_by : {B : Type 0} (faults : B → ℕ) (before : ℕ) (journal : Option (List Entry)) (store : B) → faults store ≡ before → IsUnfailed faults before journal (Some store)
-unfailed_by faults before None store same = tt
-unfailed_by faults before (Some entries) store same = λ none. same
+unfailed_by : {B : Type 0} (tells : B → BucketTold) (before : ℕ) (journal : Option (List Entry)) (store : B) → (tells store).faults ≡ before → IsUnfailed tells before journal (Some store)
+unfailed_by tells before None store same = tt
+unfailed_by tells before (Some entries) store same = λ none. same
 
 -- a bucket that was not worked on
-pub unfailed_at : {B : Type 0} (faults : B → ℕ) (before : ℕ) (journal : Option (List Entry)) (back : Option B) (store : B) → back ≡ Some store → faults store ≡ before → IsUnfailed faults before journal back
-unfailed_at {B} faults before journal back store is same = subst (λ (b : Option B). IsUnfailed faults before journal b) (sym is) (unfailed_by faults before journal store same)
+pub unfailed_at : {B : Type 0} (tells : B → BucketTold) (before : ℕ) (journal : Option (List Entry)) (back : Option B) (store : B) → back ≡ Some store → (tells store).faults ≡ before → IsUnfailed tells before journal back
+unfailed_at {B} tells before journal back store is same = subst (λ (b : Option B). IsUnfailed tells before journal b) (sym is) (unfailed_by tells before journal store same)
 
-pub unfailed_same : {B : Type 0} (faults : B → ℕ) (journal : Option (List Entry)) (back : Option B) (store : B) → back ≡ Some store → IsUnfailed faults (faults store) journal back
-unfailed_same faults journal back store is = unfailed_at faults (faults store) journal back store is refl
+pub unfailed_same : {B : Type 0} (tells : B → BucketTold) (journal : Option (List Entry)) (back : Option B) (store : B) → back ≡ Some store → IsUnfailed tells (tells store).faults journal back
+unfailed_same tells journal back store is = unfailed_at tells (tells store).faults journal back store is refl
 
 -- no bucket was handed out
-pub unfailed_none : {B : Type 0} (faults : B → ℕ) (before : ℕ) (journal : Option (List Entry)) (back : Option B) → journal ≡ None → IsUnfailed faults before journal back
-unfailed_none faults before journal back none = subst (λ (j : Option (List Entry)). IsUnfailed faults before j back) (sym none) tt
+pub unfailed_none : {B : Type 0} (tells : B → BucketTold) (before : ℕ) (journal : Option (List Entry)) (back : Option B) → journal ≡ None → IsUnfailed tells before journal back
+unfailed_none tells before journal back none = subst (λ (j : Option (List Entry)). IsUnfailed tells before j back) (sym none) tt
 
 -- a world that was worked on from its opening on
-pub unfailed_run : {B : Type 0} (faults : B → ℕ) (quiet : B → Type 0) (old new : WorldView B) → old.journal ≡ [] → WorldGoesOn faults quiet old new → failed_count new.journal ≡ 0 → faults new.bucket ≡ faults old.bucket
-unfailed_run faults quiet old new fresh on none = on.only (none ∙ sym (ap failed_count fresh))
+pub unfailed_run : {B : Type 0} (tells : B → BucketTold) (old new : WorldView B) → old.journal ≡ [] → WorldGoesOn tells old new → failed_count new.journal ≡ 0 → (tells new.bucket).faults ≡ (tells old.bucket).faults
+unfailed_run tells old new fresh on none = on.only (none ∙ sym (ap failed_count fresh))
 
 -- the parts of a world that was worked on
-pub unfailed_world : {B : Type 0} (faults : B → ℕ) (old new : WorldView B) (journal : Option (List Entry)) (back : Option B) (entries : List Entry) (store : B)
-    → (failed_count new.journal ≡ 0 → faults new.bucket ≡ faults old.bucket) → entries ≡ new.journal → store ≡ new.bucket → journal ≡ Some entries → back ≡ Some store → IsUnfailed faults (faults old.bucket) journal back
-unfailed_world {B} faults old new journal back entries store unfailed all its kept handed =
-    subst (λ (j : Option (List Entry)). IsUnfailed faults (faults old.bucket) j back) (sym (kept ∙ ap (λ (l : List Entry). Some l) all))
-    (subst (λ (b : Option B). IsUnfailed faults (faults old.bucket) (Some new.journal) b) (sym (handed ∙ ap (λ (b : B). Some b) its))
+pub unfailed_world : {B : Type 0} (tells : B → BucketTold) (old new : WorldView B) (journal : Option (List Entry)) (back : Option B) (entries : List Entry) (store : B)
+    → (failed_count new.journal ≡ 0 → (tells new.bucket).faults ≡ (tells old.bucket).faults) → entries ≡ new.journal → store ≡ new.bucket → journal ≡ Some entries → back ≡ Some store → IsUnfailed tells (tells old.bucket).faults journal back
+unfailed_world {B} tells old new journal back entries store unfailed all its kept handed =
+    subst (λ (j : Option (List Entry)). IsUnfailed tells (tells old.bucket).faults j back) (sym (kept ∙ ap (λ (l : List Entry). Some l) all))
+    (subst (λ (b : Option B). IsUnfailed tells (tells old.bucket).faults (Some new.journal) b) (sym (handed ∙ ap (λ (b : B). Some b) its))
     unfailed)
 
 -- a world over a bucket that had not failed
-pub unfailed_ended : {B : Type 0} (faults : B → ℕ) (old new : WorldView B) (journal : Option (List Entry)) (back : Option B)
-    → (failed_count new.journal ≡ 0 → faults new.bucket ≡ faults old.bucket) → faults old.bucket ≡ 0 → journal ≡ Some new.journal → back ≡ Some new.bucket → IsUnfailed faults 0 journal back
-unfailed_ended {B} faults old new journal back unfailed none kept handed =
-    subst (λ (n : ℕ). IsUnfailed faults n journal back) none (unfailed_world faults old new journal back new.journal new.bucket unfailed refl refl kept handed)
+pub unfailed_ended : {B : Type 0} (tells : B → BucketTold) (old new : WorldView B) (journal : Option (List Entry)) (back : Option B)
+    → (failed_count new.journal ≡ 0 → (tells new.bucket).faults ≡ (tells old.bucket).faults) → (tells old.bucket).faults ≡ 0 → journal ≡ Some new.journal → back ≡ Some new.bucket → IsUnfailed tells 0 journal back
+unfailed_ended {B} tells old new journal back unfailed none kept handed =
+    subst (λ (n : ℕ). IsUnfailed tells n journal back) none (unfailed_world tells old new journal back new.journal new.bucket unfailed refl refl kept handed)
 
 -- ---- checks of blocks
 

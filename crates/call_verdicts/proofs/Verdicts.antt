@@ -1,12 +1,12 @@
 -- Verdicts and their causes, from a run outwards to the whole call.
-use Rattle.std.proofs.Common.{◌≡◌, ◌≢◌, ◌⊎◌, inl, inr, ℕ, ◌<◌, ◌≤◌, List, [], ◌∷◌, length, refl, sym, ◌∙◌, subst, arith}
+use Rattle.std.proofs.Common.{◌≡◌, ◌≢◌, ◌⊎◌, inl, inr, ℕ, ◌<◌, List, [], ◌∷◌, length, refl, sym, ◌∙◌, subst}
 use Rattle.std.specs.Prelude.{Option, Some, None, IfSome, IsSome, IsSomeAnd, Ok, Err}
 use Rattle.std.proofs.lemmas.Bool.{lt-ltb}
-use Rattle.bucket_core.specs.Causes.{Rose}
+use Rattle.std.proofs.lemmas.List.Elements.{All-head}
 use Rattle.bucket_core.specs.declared.site_refusal.SiteRefusal.{SiteRefusal}
 use Rattle.bucket_core.specs.declared.site_refusal.SiteRefusal.TheVariants as site
 use Rattle.bucket_core.specs.Contents.{Contents, nothing}
-use Rattle.bucket_core.specs.Pages.{IsPage}
+use Rattle.bucket_core.specs.Pages.{IsName, IsPage}
 use Rattle.world_core.specs.declared.entry.Entry.{Entry}
 use Rattle.script_core.specs.GivenUp.{HasPatternLine, IsGivenUp, IsGivenUpFor}
 use Rattle.script_core.specs.Lawful.{IsLawfulScript}
@@ -20,7 +20,7 @@ use Rattle.script_fields.specs.Limits.{longest_text}
 use Rattle.call_verdicts.specs.Kept.{HoldsNothing}
 use Rattle.call_verdicts.specs.ShelfReads.{IsOfShelf}
 use Rattle.call_verdicts.specs.Undone.{IsUndone}
-use Rattle.call_verdicts.specs.Verdicts.{Around, BehindOpening, BehindReading, IsEarly, IsFullRun, IsRefused, IsRun, IsScriptRead, IsUnread, IsWholeRun, IsWorked}
+use Rattle.call_verdicts.specs.Verdicts.{Around, BehindOpening, BehindReading, IsEarly, IsFirstOf, IsFullRun, IsRefused, IsRun, IsScriptRead, IsUnread, IsWholeRun, IsWorked}
 use Rattle.call_verdicts.specs.declared.verdict.Verdict.{Verdict}
 use Rattle.call_verdicts.specs.declared.verdict.Verdict.TheVariants.{WordsRefused, SourceFault, ScriptRefused, SiteFault, NotEmpty, Full, Report, Checked, NoMemory}
 use Rattle.report_lines.specs.lifecycle_core.specs.Guarantees.{IsGuaranteedJournal}
@@ -74,8 +74,26 @@ behind_reading NoMemory journal P holds = λ some. holds
 
 pub worked : (around : Around) (setting : Setting) (v : Verdict) → IsScriptRead around.text around.left setting.script → IsLawfulScript setting.script
     → BehindOpening v around.opened → BehindReading v around.journal (IfSome around.files (IsOfShelf setting))
-    → IsRun around.is_done setting around.before (around.site_failed ⊎ around.shelf_failed) around.journal v → IsWorked around v
-worked around setting v read lawful opened shelf run = inr (record { setting = setting; read = read; lawful = lawful; opened = opened; shelf = shelf; run = run })
+    → IsRun around.is_done setting around.before (around.site_failed ⊎ around.shelf_failed) around.journal v → IsFirstOf around.held v → IsWorked around v
+worked around setting v read lawful opened shelf run first = inr (record { setting = setting; read = read; lawful = lawful; opened = opened; shelf = shelf; run = run; first = first })
+
+-- no name is listed of a bucket that holds nothing
+pub no_name : (name : List ℕ) → ¬ IsPage nothing [] [] 1 (name ∷ [])
+no_name name page =
+    let first = All-head (IsName nothing []) name [] page.stand in
+    cc (first.1)
+
+-- a run over such a bucket does not name one
+first_run : (is_done : Setting → List Entry → Type 0) (setting : Setting) (failed : Type 0) (journal : Option (List Entry)) (held : Option Contents) (v : Verdict) → IsRun is_done setting (Some nothing) failed journal v → IsFirstOf held v
+first_run is_done setting failed journal held WordsRefused run = tt
+first_run is_done setting failed journal held SourceFault run = tt
+first_run is_done setting failed journal held (ScriptRefused refusal) run = tt
+first_run is_done setting failed journal held SiteFault run = tt
+first_run is_done setting failed journal held (NotEmpty name) run = absurd (no_name name run.0)
+first_run is_done setting failed journal held (Full lines) run = tt
+first_run is_done setting failed journal held (Report lines as_asked) run = tt
+first_run is_done setting failed journal held (Checked block outcome) run = tt
+first_run is_done setting failed journal held NoMemory run = tt
 
 if_fst : (journal : Option (List Entry)) (P Q : List Entry → Type 0) → IfSome journal (λ entries. P entries × Q entries) → IfSome journal P
 if_fst None P Q both = tt
@@ -128,11 +146,11 @@ run_weaker is_done setting told failed other journal v weaker run = run_told is_
 
 -- a call that ended as it opened what its words name, or before its shelf was read
 pub worked_early : (around : Around) (script : Script) (v : Verdict) → IsScriptRead around.text around.left script → IsLawfulScript script → BehindOpening v around.opened → IsEarly v
-    → IsRun IsUndone (setting_of script) around.before around.site_failed around.journal v → IsWorked (record around { is_done = IsUndone }) v
-worked_early around script v read lawful opened early run =
+    → IsRun IsUndone (setting_of script) around.before around.site_failed around.journal v → IsFirstOf around.held v → IsWorked (record around { is_done = IsUndone }) v
+worked_early around script v read lawful opened early run first =
     worked (record around { is_done = IsUndone }) (setting_of script) v read lawful opened
     (before_reading v around.journal (IfSome around.files (IsOfShelf (setting_of script))) early (undone_empty (setting_of script) around.before around.site_failed around.journal v early run))
-    (run_weaker IsUndone (setting_of script) around.before around.site_failed (around.site_failed ⊎ around.shelf_failed) around.journal v (λ failed. inl failed) run)
+    (run_weaker IsUndone (setting_of script) around.before around.site_failed (around.site_failed ⊎ around.shelf_failed) around.journal v (λ failed. inl failed) run) first
 
 pub if_nothing : (P : Contents → Type 0) (told : Option Contents) → IfSome told (λ c. c ≡ nothing) → P nothing → IfSome told P
 if_nothing P None is holds = tt
@@ -156,20 +174,6 @@ pub run_handed : (is_done : Setting → List Entry → Type 0) (setting : Settin
     → journal ≡ Some entries → handed ≡ journal → verdict ≡ v → IsRun is_done setting (Some nothing) failed (Some entries) v → IsRun is_done setting (Some nothing) failed handed verdict
 run_handed is_done setting failed entries journal handed v verdict is same told run =
     subst (λ (j : Option (List Entry)). IsRun is_done setting (Some nothing) failed j verdict) (sym (same ∙ is)) (subst (IsRun is_done setting (Some nothing) failed (Some entries)) (sym told) run)
-
--- a count that was 0 and rose is above 0
-pub above_none : {B : Type 0} (faults : B → ℕ) (before : ℕ) (store : Option B) → before ≡ 0 → IsSomeAnd store (λ b. Rose before (faults b)) → IsSomeAnd store (λ b. 0 < faults b)
-above_none faults before None none rose = rose
-above_none faults before (Some b) none rose = omega (arith, none, rose)
-
--- a failure behind another opening is one of both
-pub rose_later : (before between after : ℕ) → before ≤ between → Rose between after → Rose before after
-rose_later before between after later rose = omega (arith, later, rose)
-
-pub failed_later : {B : Type 0} (faults : B → ℕ) (before between after count : ℕ) (store : Option B) → before ≤ between → count ≡ 0
-    → Rose between after ⊎ IsSomeAnd store (λ b. Rose count (faults b)) → Rose before after ⊎ IsSomeAnd store (λ b. 0 < faults b)
-failed_later faults before between after count store later none (inl rose) = inl (rose_later before between after later rose)
-failed_later faults before between after count store later none (inr rose) = inr (above_none faults count store none rose)
 
 too_long : (text : List ℕ) → longest_text < length text → script_of text ≡ Err TooLong
 unfolding script_of
@@ -211,6 +215,7 @@ worked_run around setting entries v verdict read lawful opened empty kept is she
     (subst (λ (j : Option (List Entry)). BehindReading v j (IfSome around.files (IsOfShelf setting))) (sym kept) shelf))
     (run_empty around.is_done setting around.before (around.site_failed ⊎ around.shelf_failed) around.journal verdict empty
     (run_handed around.is_done setting (around.site_failed ⊎ around.shelf_failed) entries (Some entries) around.journal v verdict refl kept is run))
+    (subst (IsFirstOf around.held) (sym is) (first_run around.is_done setting (around.site_failed ⊎ around.shelf_failed) (Some entries) around.held v run))
 
 some_undone : (is_done : List Entry → Type 0) (P : List Entry → Type 0) (journal : Option (List Entry)) → is_done [] → IfSome journal (λ entries. (entries ≡ []) × P entries) → IfSome journal (λ entries. is_done entries × P entries)
 some_undone is_done P None none run = tt
@@ -244,4 +249,5 @@ worked_undone around is_done v none (inr work) =
       opened = work.opened;
       shelf = work.shelf;
       run = run_undone is_done work.setting around.before (around.site_failed ⊎ around.shelf_failed) around.journal v (none work.setting) work.run;
+      first = work.first;
     })

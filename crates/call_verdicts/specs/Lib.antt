@@ -3,6 +3,8 @@ pub mod Checks
 pub mod CheckVerdicts
 pub mod Kept
 pub mod Noted
+pub mod Openings
+pub mod Outside
 pub mod Output
 pub mod Statuses
 pub mod Undone

@@ -8,6 +8,7 @@ use Rattle.block_loading.specs.Loading.{PassesOnShelf, RefusesOnShelf, names_rea
 use Rattle.bucket_core.specs.Asking.{Asks}
 use Rattle.bucket_core.specs.Causes.{Rose}
 use Rattle.bucket_core.specs.Contents.{Contents}
+use Rattle.bucket_core.specs.Told.{ShelfTold}
 use Rattle.script_core.specs.declared.block.Block.{Block}
 use Rattle.script_core.specs.declared.script.Script.{Script}
 use Rattle.script_core.specs.declared.body.Body.TheVariants.{OnShelf}
@@ -54,10 +55,10 @@ abbrev pub IsBrokenOff : Type 0 → Verdict → Type 0
 IsBrokenOff failed v = ((v ≡ verdict.SiteFault) × failed) ⊎ (v ≡ verdict.NoMemory)
 
 -- the shelf was asked for files of the block, where the script takes it from there
-abbrev pub AsksFor : {F : Type 0} → (F → Option (List (List ℕ))) → F → F → Block → Type 0
-AsksFor asked old new block =
-    ((block.body ≢ OnShelf) × Asks asked old new [])
-    ⊎ ((block.body ≡ OnShelf) × (count : ℕ) × Asks asked old new (names_read block.ulid count))
+abbrev pub AsksFor : {F : Type 0} → (F → ShelfTold) → F → F → Block → Type 0
+AsksFor tells old new block =
+    ((block.body ≢ OnShelf) × Asks (tells old).asked (tells new).asked [])
+    ⊎ ((block.body ≡ OnShelf) × (count : ℕ) × Asks (tells old).asked (tells new).asked (names_read block.ulid count))
 
 -- the setting of a run, by what was read
 abbrev pub setting_read : Script → Result (List ShelfBlock) Verdict → Setting

@@ -5,6 +5,7 @@ use Rattle.base.specs.Lines.{newline}
 use Rattle.bucket_core.specs.Causes.{Rose}
 use Rattle.bucket_core.specs.Contents.{Contents, nothing}
 use Rattle.bucket_core.specs.Pages.{IsPage}
+use Rattle.bucket_core.specs.Told.{BucketTold, ShelfTold, SinkTold, SiteTold, next_bucket}
 use Rattle.world_core.specs.Keeping.{IsFull}
 use Rattle.world_core.specs.Standing.{IsHonest}
 use Rattle.world_core.specs.Worlds.{failed_count}
@@ -28,18 +29,17 @@ use Rattle.report_lines.specs.lifecycle_core.specs.Setting.{Setting}
 use Rattle.report_lines.specs.lifecycle_core.specs.Tasks.{End}
 use Rattle.report_lines.specs.CheckLines.{check_line}
 use Rattle.call_verdicts.specs.Checks.{check_status, files_of, IsCheckOf}
-use Rattle.call_verdicts.specs.Kept.{HoldsNothing, IsNotAsked, IsOpened, IsUnfailed, told_of}
-use Rattle.report_lines.specs.script_running.specs.Outcomes.{PhasesCame}
+use Rattle.call_verdicts.specs.Kept.{AsksNoBucket, AsksNoShelf, HoldsNothing, IsOpened, IsUnfailed, told_of}
+use Rattle.report_lines.specs.script_running.specs.Outcomes.{Outcome, PhasesCame, is_as_asked}
+use Rattle.call_verdicts.specs.Outside.{Names, Outside}
 use Rattle.call_verdicts.specs.Output.{IsWrittenInPart}
 use Rattle.report_lines.specs.breach_finding.specs.declared.found.Breach.{Breach}
 use Rattle.report_lines.specs.BreachLines.{HasBreach, breach_text}
 use Rattle.report_lines.specs.Telling.{report_of, tasks_of}
-use Rattle.report_lines.specs.script_running.specs.Outcomes.{is_as_asked}
 use Rattle.call_verdicts.specs.ShelfReads.{IsOfShelf}
 use Rattle.call_verdicts.specs.Shippable.{RefusesNone, StaysWithin}
 use Rattle.call_verdicts.specs.Statuses.{number_of}
 use Rattle.report_lines.specs.declared.check_outcome.CheckOutcome.{CheckOutcome}
-use Rattle.report_lines.specs.script_running.specs.declared.outcome.Outcome.{Outcome}
 use Rattle.call_verdicts.specs.declared.status.Status.{Status}
 use Rattle.call_verdicts.specs.declared.status.Status.TheVariants as status
 use Rattle.call_verdicts.specs.declared.verdict.Verdict.{Verdict}
@@ -154,13 +154,15 @@ pub record Around : Type 1 where
   pub source_failed : Type 0
   -- what the bucket held before, where the site tells it
   pub before : Option Contents
+  -- what the bucket holds that is handed back, where it tells it
+  pub held : Option Contents
   -- what the words name could not be opened, or the bucket not listed
   pub site_failed : Type 0
   -- the site handed out all that the words name
   pub opened : Type 0
   -- the site was asked for nothing
   pub unasked : Type 0
-  -- the files of the shelf that the words name, where the site tells them
+  -- the files of the shelf that the words name, where the site tells them or the shelf that was handed out
   pub files : Option Contents
   -- the shelf could not be opened, or a reading of it failed
   pub shelf_failed : Type 0
@@ -171,31 +173,39 @@ pub record Around : Type 1 where
   -- what holds of the journal of a run, by the way in which the call does phases
   pub is_done : Setting → List Entry → Type 0
 
--- an opening failed, or a bucket that was handed out has failed
-abbrev pub SiteFailed : {S B : Type 0} → (S → ℕ) → S → S → (B → ℕ) → Option B → Type 0
-SiteFailed site_faults old new faults store = Rose (site_faults old) (site_faults new) ⊎ IsSomeAnd store (λ bucket. 0 < faults bucket)
+-- an opening failed, or the bucket that was handed out has failed
+abbrev pub SiteFailed : {B : Type 0} → (old new : SiteTold) → (B → BucketTold) → Option B → Type 0
+SiteFailed old new tells store = Rose old.faults new.faults ⊎ IsSomeAnd store (λ bucket. 0 < (tells bucket).faults)
 
--- The world around a call that took a source from `script` to `read` and a site from `site` to `asked`, and handed back a bucket
--- and a journal, or neither, and a shelf or none. The words name the bucket, the shelf and the block, each where it is asked for.
-abbrev pub around_call : {R S B F : Type 0} → (Setting → List Entry → Type 0) → (R → Option (List ℕ)) → (R → ℕ) → R → R
-    → (S → ℕ) → (S → List ℕ → Option Contents) → (S → ℕ) → (S → List ℕ → Option Contents) → (S → ℕ) → Option (List ℕ) → Option (List ℕ) → Option ℕ → S → S
-    → (B → ℕ) → (F → ℕ) → Option B → Option F → Option (List Entry) → Around
-around_call is_done left source_faults script read buckets next_bucket shelves next_shelf site_faults bucket_word shelf_word block_word site asked store_faults shelf_faults store shelf journal = record {
-  run = IsSome bucket_word;
-  block = block_word;
-  text = left script;
-  left = left read;
-  source_failed = Rose (source_faults script) (source_faults read);
-  before = told_of (next_bucket site) bucket_word;
-  site_failed = SiteFailed site_faults site asked store_faults store;
-  opened = IsOpened bucket_word shelf_word store shelf;
-  unasked = IsNotAsked buckets next_bucket site asked × IsNotAsked shelves next_shelf site asked;
-  files = files_of (next_shelf site) shelf_word;
-  shelf_failed = SiteFailed site_faults site asked shelf_faults shelf;
+-- an opening failed, or the shelf that was handed out has failed
+abbrev pub ShelfFailed : {F : Type 0} → (old new : SiteTold) → (F → ShelfTold) → Option F → Type 0
+ShelfFailed old new tells shelf = Rose old.faults new.faults ⊎ IsSomeAnd shelf (λ files. 0 < (tells files).faults)
+
+-- what a bucket tells that it holds, if there is one
+abbrev pub held_in : {B : Type 0} → (B → BucketTold) → Option B → Option Contents
+held_in tells None = None
+held_in tells (Some store) = (tells store).contents
+
+-- The world around a call over this outside whose words name these, and which handed back a bucket and a journal, or neither, and
+-- a shelf or none.
+abbrev pub around_call : {B F : Type 0} → (Setting → List Entry → Type 0) → Outside B F → Names → Option B → Option F → Option (List Entry) → Around
+around_call is_done o of store shelf journal = record {
+  run = IsSome of.bucket;
+  block = of.block;
+  text = o.source.left;
+  left = o.read.left;
+  source_failed = Rose o.source.faults o.read.faults;
+  before = told_of (next_bucket o.site.before) of.bucket;
+  held = held_in o.site.store store;
+  site_failed = SiteFailed o.site.before o.site.after o.site.store store;
+  opened = IsOpened of.bucket of.shelf store shelf;
+  unasked = AsksNoBucket o.site.before o.site.after × AsksNoShelf o.site.before o.site.after;
+  files = files_of o.site.files o.site.before of.shelf shelf;
+  shelf_failed = ShelfFailed o.site.before o.site.after o.site.files shelf;
   journal = journal;
   unfailed =
-      (source_faults read ≡ source_faults script) × (site_faults asked ≡ site_faults site)
-      × IsUnfailed store_faults 0 journal store × IfSome shelf (λ s. shelf_faults s ≡ 0);
+      (o.read.faults ≡ o.source.faults) × (o.site.after.faults ≡ o.site.before.faults)
+      × IsUnfailed o.site.store 0 journal store × IfSome shelf (λ s. (o.site.files s).faults ≡ 0);
   is_done = is_done;
 }
 
@@ -209,6 +219,18 @@ IsRun is_done setting before site_failed journal (Full lines) = IfSome before Ho
 IsRun is_done setting before site_failed journal (Report lines as_asked) = IfSome before HoldsNothing × IsSomeAnd journal (λ entries. is_done setting entries × IsWholeRun setting as_asked lines.items entries)
 IsRun is_done setting before site_failed journal NoMemory = IfSome journal (λ entries. is_done setting entries × IsGuaranteedJournal setting entries)
 IsRun is_done setting before site_failed journal other = ⊥
+
+-- The name that a verdict tells of a bucket that is not empty is the least of what the bucket tells that is handed back.
+abbrev pub IsFirstOf : Option Contents → Verdict → Type 0
+IsFirstOf held (NotEmpty name) = IfSome held (λ contents. IsPage contents [] [] 1 (name ∷ []))
+IsFirstOf held WordsRefused = Unit {0}
+IsFirstOf held SourceFault = Unit {0}
+IsFirstOf held (ScriptRefused refusal) = Unit {0}
+IsFirstOf held SiteFault = Unit {0}
+IsFirstOf held (Full lines) = Unit {0}
+IsFirstOf held (Report lines as_asked) = Unit {0}
+IsFirstOf held (Checked block outcome) = Unit {0}
+IsFirstOf held NoMemory = Unit {0}
 
 -- what holds where a verdict comes behind all openings
 abbrev pub BehindOpening : Verdict → Type 0 → Type 0
@@ -267,6 +289,7 @@ pub record IsRunOfText (around : Around) (verdict : Verdict) : Type 0 where
   pub opened : BehindOpening verdict around.opened
   pub shelf : BehindReading verdict around.journal (IfSome around.files (IsOfShelf setting))
   pub run : IsRun around.is_done setting around.before (around.site_failed ⊎ around.shelf_failed) around.journal verdict
+  pub first : IsFirstOf around.held verdict
 
 -- why no script was read: by the source, or by its text, which was read to its end unless it was too long
 abbrev pub IsUnread : Option (List ℕ) → Option (List ℕ) → Type 0 → Verdict → Type 0
@@ -333,8 +356,8 @@ pub record Saying : Type 0 where
   pub written_after : Option (List ℕ)
 
 -- a sink by its counts and what was written, before a call and after it
-abbrev pub saying_to : {K : Type 0} → (K → ℕ) → (K → Option (List ℕ)) → K → K → Saying
-saying_to faults written old new = record { faults_before = faults old; faults_after = faults new; written_before = written old; written_after = written new }
+abbrev pub saying_to : (old new : SinkTold) → Saying
+saying_to old new = record { faults_before = old.faults; faults_after = new.faults; written_before = old.written; written_after = new.written }
 
 -- the text was added to what was written
 abbrev pub IsAdded : List ℕ → Saying → Type 0
@@ -355,7 +378,7 @@ IsCheckSaid files ulid saying number =
     → (outcome : CheckOutcome) × IsCheckOf files ulid outcome × (number ≡ number_of (check_status outcome)) × IsAdded (check_line ulid outcome) saying
 
 -- Nothing stands in the way of a run: the source tells a text that spells a script, and the bucket held nothing.
-pub record IsReady (around : Around) : Type 0 where
+pub record CanBegin (around : Around) : Type 0 where
   pub text : List ℕ
   pub told : around.text ≡ Some text
   pub script : Script
@@ -364,7 +387,7 @@ pub record IsReady (around : Around) : Type 0 where
 
 -- a run begins, or the journal shows that it began
 abbrev pub IsBegun : Around → Type 0
-IsBegun around = IsReady around ⊎ IsSomeAnd around.journal (λ entries. entries ≢ [])
+IsBegun around = CanBegin around ⊎ IsSomeAnd around.journal (λ entries. entries ≢ [])
 
 -- No rule refuses an entry of the journal, which it shows by itself; or it is honest, as each one over a bucket is that tells what it
 -- holds, and no line of the script is a cleaning.

@@ -6,6 +6,7 @@ use Rattle.std.specs.String.{string_bytes}
 use Rattle.std.specs.declared.alloc.Global.{Global}
 use Rattle.base.specs.Decimal.{unsigned_of}
 use Rattle.ulid_core.specs.UlidText.{ulid_of}
+use Rattle.call_verdicts.specs.Outside.{Names, names}
 
 -- the bucket of a run, which words of this name name: `NAME BUCKET SHELF`
 abbrev pub bucket_in : List ℕ → List (String Global) → Option (List ℕ)
@@ -51,3 +52,11 @@ shelf_word words = if is_some (bucket_word words) then run_shelf words else (if 
 -- the shelf of the words `replay BUCKET SHELF`
 abbrev pub replay_shelf : List (String Global) → Option (List ℕ)
 replay_shelf words = if is_some (replay_word words) then run_shelf words else None
+
+-- what the words of a call name that does its tasks one after another, or checks a block
+abbrev pub serial_names : List (String Global) → Names
+serial_names words = names (bucket_word words) (shelf_word words) (block_word words)
+
+-- what the words of a call name that does its tasks with threads
+abbrev pub replay_names : List (String Global) → Names
+replay_names words = names (replay_word words) (replay_shelf words) None

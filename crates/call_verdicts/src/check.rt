@@ -2,10 +2,10 @@
 ghost use Rattle.std.specs.Prelude.{◌≡◌, [], None, IfSome, is_some, option_map};
 ghost use Rattle.bucket_core.specs.Causes.{Rose};
 ghost use Rattle.call_verdicts.specs.CheckVerdicts.{refused_for, verdict_on};
-ghost use Rattle.call_verdicts.specs.Checks.{cause_number, files_in, files_of, HasFailed};
-ghost use Rattle.call_verdicts.specs.Kept.{IsNotAsked, IsShelfOf};
-ghost use Rattle.call_verdicts.specs.Asked.{IsBroken, WasAsked, WasChecked};
-ghost use Rattle.call_verdicts.specs.Verdicts.{BehindOpening, IfShort, IsChecked, SiteFailed};
+ghost use Rattle.call_verdicts.specs.Checks.{cause_number, files_held, files_in, files_of, HasFailed};
+ghost use Rattle.call_verdicts.specs.Kept.{AsksNoBucket, IsShelfOf};
+ghost use Rattle.call_verdicts.specs.Asked.{IsBroken, WasAsked, WasChecked, names_asked};
+ghost use Rattle.call_verdicts.specs.Verdicts.{BehindOpening, IfShort, IsChecked, ShelfFailed};
 ghost use Rattle.call_verdicts.specs.Words.{named_by};
 
 use crate::Verdict;
@@ -27,19 +27,20 @@ pub fn check_block<S: Site>(
     block: Ulid,
     site: &mut S,
 ) -> Ended<S::Store, S::Files>
-    ensures cause { IsChecked (files_of (S.next_shelf site.old) (named_by shelf.now)) block
-        (SiteFailed S.faults site.old site.new S.Files.faults result.shelf)
+    ensures cause { IsChecked
+        (files_of S.Files.told (S.told site.old) (named_by shelf.now) result.shelf) block
+        (ShelfFailed (S.told site.old) (S.told site.new) S.Files.told result.shelf)
         result.conclusion.verdict }
     ensures opened { BehindOpening result.conclusion.verdict
         (is_some result.shelf ≡ is_some (named_by shelf.now)) }
-    ensures bucket { IsNotAsked S.buckets S.next_bucket site.old site.new }
-    ensures shelf { IsShelfOf S.shelves S.next_shelf S.Files.files (named_by shelf.now)
-        site.old site.new result.shelf }
+    ensures bucket { AsksNoBucket (S.told site.old) (S.told site.new) }
+    ensures shelf { IsShelfOf S.Files.told (named_by shelf.now) (S.told site.old)
+        (S.told site.new) result.shelf }
     ensures short { IfShort result.conclusion.verdict
-        ((S.faults site.new ≡ S.faults site.old)
-        × IfSome result.shelf (λ files. S.Files.faults files ≡ 0)) }
-    ensures asked { IfSome result.shelf (WasChecked S.Files.asked
-        (files_of (S.next_shelf site.old) (named_by shelf.now)) block
+        (((S.told site.new).faults ≡ (S.told site.old).faults)
+        × IfSome result.shelf (λ files. (S.Files.told files).faults ≡ 0)) }
+    ensures asked { IfSome result.shelf (WasChecked S.Files.told
+        (files_of S.Files.told (S.told site.old) (named_by shelf.now) result.shelf) block
         (IsBroken result.conclusion.verdict)) }
     ensures store { result.conclusion.store ≡ None }
     ensures journal { result.conclusion.journal ≡ None }
@@ -64,14 +65,14 @@ pub fn check_block<S: Site>(
 
 /// Checks a block of a shelf that was opened. Without a shelf there is no block.
 fn check_opened<F: Shelf>(alloc: Global, block: Ulid, shelf: Option<F>) -> (Verdict, Option<F>)
-    ensures cause { IsChecked (files_in F.files shelf) block
-        (HasFailed F.faults shelf result.1) result.0 }
-    ensures short { IfSome shelf (λ files. F.faults files ≡ 0)
-        → IfShort result.0 (IfSome result.1 (λ files. F.faults files ≡ 0)) }
-    ensures asked { IfSome shelf (WasAsked F.asked [])
+    ensures cause { IsChecked (files_in F.told shelf) block
+        (HasFailed F.told shelf result.1) result.0 }
+    ensures short { IfSome shelf (λ files. (F.told files).faults ≡ 0)
+        → IfShort result.0 (IfSome result.1 (λ files. (F.told files).faults ≡ 0)) }
+    ensures asked { IfSome shelf (WasAsked (names_asked F.told) [])
         → IfSome result.1
-        (WasChecked F.asked (files_in F.files shelf) block (IsBroken result.0)) }
-    ensures same { option_map F.files result.1 ≡ option_map F.files shelf }
+        (WasChecked F.told (files_in F.told shelf) block (IsBroken result.0)) }
+    ensures same { option_map (files_held F.told) result.1 ≡ option_map (files_held F.told) shelf }
 {
     match shelf {
         Some(shelf) => {
@@ -91,12 +92,12 @@ fn absent(block: Ulid) -> Verdict
 
 /// Checks a block of a shelf.
 fn check_files<F: Shelf>(alloc: Global, block: Ulid, shelf: F) -> (Verdict, F)
-    ensures cause { IsChecked (F.files shelf) block (Rose (F.faults shelf) (F.faults result.1))
-        result.0 }
-    ensures short { IfShort result.0 (F.faults result.1 ≡ F.faults shelf) }
-    ensures asked { WasAsked F.asked [] shelf
-        → WasChecked F.asked (F.files shelf) block (IsBroken result.0) result.1 }
-    ensures same { F.files result.1 ≡ F.files shelf }
+    ensures cause { IsChecked (F.told shelf).files block
+        (Rose (F.told shelf).faults (F.told result.1).faults) result.0 }
+    ensures short { IfShort result.0 ((F.told result.1).faults ≡ (F.told shelf).faults) }
+    ensures asked { WasAsked (names_asked F.told) [] shelf
+        → WasChecked F.told (F.told shelf).files block (IsBroken result.0) result.1 }
+    ensures same { (F.told result.1).files ≡ (F.told shelf).files }
 {
     let mut shelf = shelf;
     let checked = check_on_shelf(alloc, &mut shelf, block);

@@ -33,10 +33,21 @@ pub struct Conclusion<B> {
 }
 
 impl<B: Bucket, F> Ended<B, F> {
+    /// A call that came to its conclusion before its run began.
+    pub fn early(conclusion: Conclusion<B>, shelf: Option<F>) -> Ended<B, F>
+        ensures { result ≡ record { conclusion = conclusion; shelf = shelf; note = None } }
+    {
+        Ended {
+            conclusion,
+            shelf,
+            note: None,
+        }
+    }
+
     /// Says what the call comes to, and hands over what it leaves.
     pub fn into_run<K: Sink>(self, alloc: Global, out: &mut K) -> Run<B, F>
         ensures { (status : Status)
-            × IsSaid self.conclusion.verdict (saying_to K.faults K.written out.old out.new) status
+            × IsSaid self.conclusion.verdict (saying_to (K.told out.old) (K.told out.new)) status
             × (result ≡ record {
               status = number_of status;
               journal = self.conclusion.journal;
@@ -65,7 +76,7 @@ impl<B: Bucket, F> Ended<B, F> {
 
 /// Writes a verdict's text. Its status is that of the call, unless the sink failed or there was no memory for the text.
 fn say<K: Sink>(alloc: Global, verdict: Verdict, out: &mut K) -> Status
-    ensures { IsSaid verdict (saying_to K.faults K.written out.old out.new) result }
+    ensures { IsSaid verdict (saying_to (K.told out.old) (K.told out.new)) result }
 {
     let status = verdict.status();
     let last = verdict.last_line();
@@ -80,11 +91,11 @@ fn say<K: Sink>(alloc: Global, verdict: Verdict, out: &mut K) -> Status
 
 /// Writes all of the one text, and then all of the other.
 fn write_both<K: Sink>(out: &mut K, first: &[u8], last: &[u8]) -> Result<(), SinkFault>
-    ensures whole { OnOk result (K.written out.new
-        ≡ option_map (λ before. before ++ (first.now ++ last.now)) (K.written out.old)) }
-    ensures part { OnErr result
-        (IsWrittenInPart (first.now ++ last.now) (K.written out.old) (K.written out.new)) }
-    ensures cause { OnErr result (Rose (K.faults out.old) (K.faults out.new)) }
+    ensures whole { OnOk result ((K.told out.new).written
+        ≡ option_map (λ before. before ++ (first.now ++ last.now)) (K.told out.old).written) }
+    ensures part { OnErr result (IsWrittenInPart (first.now ++ last.now)
+        (K.told out.old).written (K.told out.new).written) }
+    ensures cause { OnErr result (Rose (K.told out.old).faults (K.told out.new).faults) }
 {
     write_all(out, first)?;
     write_all(out, last)
@@ -125,8 +136,8 @@ impl<B: Bucket> Conclusion<B> {
         ensures journal { result.0.journal ≡ Some run.world.journal }
         ensures store { result.0.store ≡ Some run.world.bucket }
         ensures note { result.1 ≡ run.note }
-        ensures back { IsHandedBack B.contents B.faults result.0.journal result.0.store }
-        ensures untouched { IsUntouched B.contents nothing result.0.journal result.0.store }
+        ensures back { IsHandedBack B.told result.0.journal result.0.store }
+        ensures untouched { IsUntouched B.told nothing result.0.journal result.0.store }
     {
         let (note, journal, store) = run.into_parts();
         (Conclusion::with_bucket(verdict, journal, store), note)

@@ -12,16 +12,16 @@ const PIECE: usize = 65_536;
 /// Reads a source to its end, or to the first byte past the limit.
 pub fn read_all<R: Source>(alloc: Global, source: &mut R) -> Result<Vec<u8>, InputRefusal>
     ensures whole { IfOk result
-        (λ bytes. IfSome (R.left source.old)
-        (λ all. (bytes.items ≡ all) × (R.left source.new ≡ Some []))) }
+        (λ bytes. IfSome (R.told source.old).left
+        (λ all. (bytes.items ≡ all) × ((R.told source.new).left ≡ Some []))) }
     ensures small { IfOk result (λ bytes. length bytes.items ≤ longest_text) }
     ensures long { result ≡ Err InputRefusal.TooLong
-        → IfSome (R.left source.old) (λ all. longest_text < length all) }
-    ensures later { R.faults source.old ≤ R.faults source.new }
+        → IfSome (R.told source.old).left (λ all. longest_text < length all) }
+    ensures later { (R.told source.old).faults ≤ (R.told source.new).faults }
     ensures cause { result ≡ Err InputRefusal.Fault
-        → Rose (R.faults source.old) (R.faults source.new) }
+        → Rose (R.told source.old).faults (R.told source.new).faults }
     ensures only { result ≢ Err InputRefusal.Fault
-        → R.faults source.new ≡ R.faults source.old }
+        → (R.told source.new).faults ≡ (R.told source.old).faults }
 {
     let mut bytes = Vec::new(alloc);
     let mut piece = zeros(alloc, PIECE)?;

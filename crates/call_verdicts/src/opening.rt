@@ -1,13 +1,13 @@
 //! A run is made ready: its script is read, its bucket and its shelf are opened, and a world over the bucket.
 
-ghost use Rattle.std.specs.Prelude.{◌≡◌, ◌≢◌, ◌⊎◌, ◌≤◌, ◌+◌, ℕ, List, [], Some, IfOk, IfErr, IfSome, IsSome, IsSomeAnd, MatchResult, is_some, None};
+ghost use Rattle.std.specs.Prelude.{◌≡◌, ◌≢◌, ◌<◌, ◌≤◌, ℕ, List, Some, IfOk, IfErr, IfSome, IsSome, IsSomeAnd, MatchResult};
 ghost use Rattle.bucket_core.specs.Causes.{Rose};
 ghost use Rattle.script_core.specs.Lawful.{IsLawfulScript};
-ghost use Rattle.report_lines.specs.lifecycle_core.specs.Setting.{setting_of};
-ghost use Rattle.call_verdicts.specs.Kept.{HoldsNothing, IsHandedBack, IsHandedOut, IsNotAsked, IsOpened, IsShelfOf, IsUnfailed, IsUntouched};
-ghost use Rattle.call_verdicts.specs.Asked.{IsBucketAsked, WasAsked, WasOnlyOpened, WasReadFor, for_opening};
-ghost use Rattle.call_verdicts.specs.Undone.{IsUndone};
-ghost use Rattle.call_verdicts.specs.Verdicts.{BehindOpening, IfShort, IsEarly, IsRun, IsScriptRead, IsUnread, IsWorked, SiteFailed, around_call};
+ghost use Rattle.script_core.specs.declared.script.Script.{Script};
+ghost use Rattle.call_verdicts.specs.Kept.{AsksNoBucket, HoldsNothing};
+ghost use Rattle.call_verdicts.specs.Openings.{HasEnded, HasNotOpened, IsNewWorld, IsOpen, IsReady, IsShelfOpen, IsUnopened, IsUnused};
+ghost use Rattle.call_verdicts.specs.Outside.{outside, site_call};
+ghost use Rattle.call_verdicts.specs.Verdicts.{IfShort, IsEarly, IsScriptRead, IsUnread};
 ghost use Rattle.call_verdicts.specs.Words.{named_by};
 
 use crate::conclusion::{Conclusion, Ended};
@@ -27,7 +27,6 @@ pub struct Ready<B: Bucket, F> {
 }
 
 /// Reads the script, and opens the bucket and the shelf; or ends the call.
-#[tactic(auto, using(crate::proofs::Verdicts::worked_early, crate::proofs::Verdicts::unread, crate::proofs::BucketAsked::none_asked, crate::proofs::BucketAsked::none_opened))]
 pub fn read_and_open<S: Site, R: Source>(
     alloc: Global,
     bucket: &str,
@@ -35,61 +34,12 @@ pub fn read_and_open<S: Site, R: Source>(
     site: &mut S,
     script: &mut R,
 ) -> Result<Ready<S::Store, S::Files>, Ended<S::Store, S::Files>>
-    // The script is read, all that the words name is opened, and nothing failed.
-    ensures read { IfOk result
-        (λ ready. IsScriptRead (R.left script.old) (R.left script.new) ready.script) }
-    ensures lawful { IfOk result (λ ready. IsLawfulScript ready.script) }
-    ensures source { IfOk result (λ ready. R.faults script.new ≡ R.faults script.old) }
-    ensures site { IfOk result (λ ready. S.faults site.new ≡ S.faults site.old) }
-    ensures buckets { IfOk result (λ ready. S.buckets site.new ≡ S.buckets site.old + 1) }
-    ensures fresh { IfOk result (λ ready. ready.world.journal ≡ []) }
-    ensures tick { IfOk result (λ ready. ready.world.tick ≡ ready.script.rules.tick.ms) }
-    ensures empty { IfOk result
-        (λ ready. IfSome (S.next_bucket site.old bucket.now) HoldsNothing) }
-    ensures unfailed { IfOk result (λ ready. S.Store.faults ready.world.bucket ≡ 0) }
-    ensures unread { IfOk result
-        (λ ready. IfSome ready.shelf (λ files. S.Files.faults files ≡ 0)) }
-    ensures unasked { IfOk result (λ ready. IfSome ready.shelf (WasAsked S.Files.asked [])) }
-    ensures asked { IfOk result
-        (λ ready. WasAsked S.Store.asked for_opening ready.world.bucket) }
-    ensures opened { IfOk result (λ ready. is_some ready.shelf ≡ is_some (named_by shelf.now)) }
-    ensures shelf { IfOk result
-        (λ ready. IsShelfOf S.shelves S.next_shelf S.Files.files (named_by shelf.now)
-        site.old site.new ready.shelf) }
-
-    // Or the call has ended before anything was done to the bucket.
-    ensures cause { IfErr result (λ ended. IsWorked
-        (around_call IsUndone R.left R.faults script.old script.new
-        S.buckets S.next_bucket S.shelves S.next_shelf S.faults
-        (Some bucket.now) (named_by shelf.now)
-        None site.old site.new S.Store.faults S.Files.faults
-        ended.conclusion.store ended.shelf ended.conclusion.journal)
-        ended.conclusion.verdict) }
-    ensures short { IfErr result (λ ended. IfShort ended.conclusion.verdict
-        ((R.faults script.new ≡ R.faults script.old) × (S.faults site.new ≡ S.faults site.old)
-        × IsUnfailed S.Store.faults 0 ended.conclusion.journal ended.conclusion.store
-        × IfSome ended.shelf (λ files. S.Files.faults files ≡ 0))) }
-    ensures back_read { IfErr result
-        (λ ended. IfSome ended.shelf (WasReadFor S.Files.asked (R.left script.old))) }
-    ensures handed { IfErr result
-        (λ ended. IsHandedOut S.buckets site.old site.new ended.conclusion.store) }
-    ensures kept { IfErr result
-        (λ ended. is_some ended.conclusion.journal ≡ is_some ended.conclusion.store) }
-    ensures back { IfErr result
-        (λ ended. IsHandedBack S.Store.contents S.Store.faults ended.conclusion.journal
-        ended.conclusion.store) }
-    ensures unnoted { IfErr result (λ ended. ended.note ≡ None) }
-    ensures untouched { IfErr result (λ ended. IfSome (S.next_bucket site.old bucket.now)
-        (λ c. IsUntouched S.Store.contents c ended.conclusion.journal ended.conclusion.store)) }
-    ensures back_asked { IfErr result
-        (λ ended. ended.conclusion.verdict ≢ Verdict.NoMemory
-        → IsBucketAsked S.Store.asked ended.conclusion.verdict ended.conclusion.journal
-        ended.conclusion.store) }
-    ensures back_shelf { IfErr result
-        (λ ended. IsShelfOf S.shelves S.next_shelf S.Files.files (named_by shelf.now)
-        site.old site.new ended.shelf) }
-    ensures only_opened { IfErr result
-        (λ ended. IfSome ended.conclusion.store (WasOnlyOpened S.Store.asked)) }
+    ensures ready { IfOk result (IsReady (outside (R.told script.old) (R.told script.new)
+        (site_call (S.told site.old) (S.told site.new) S.Store.told S.Files.told))
+        bucket.now (named_by shelf.now)) }
+    ensures ended { IfErr result (HasEnded (outside (R.told script.old) (R.told script.new)
+        (site_call (S.told site.old) (S.told site.new) S.Store.told S.Files.told))
+        bucket.now (named_by shelf.now)) }
 {
     match read_script(alloc, script) {
         Ok(script) => match open_site(alloc, &script, bucket, shelf, site) {
@@ -105,13 +55,7 @@ pub fn read_and_open<S: Site, R: Source>(
                 Err(ended)
             }
         },
-        Err(verdict) => {
-            Err(Ended {
-                conclusion: Conclusion::without_bucket(verdict),
-                shelf: None,
-                note: None,
-            })
-        }
+        Err(verdict) => Err(Ended::early(Conclusion::without_bucket(verdict), None)),
     }
 }
 
@@ -119,13 +63,14 @@ pub fn read_and_open<S: Site, R: Source>(
 #[tactic(auto, using(crate::proofs::Verdicts::refused_too_long, crate::proofs::Verdicts::refused_whole, crate::proofs::Verdicts::read_whole))]
 fn read_script<R: Source>(alloc: Global, source: &mut R) -> Result<Script, Verdict>
     ensures read { IfOk result
-        (λ read. IsScriptRead (R.left source.old) (R.left source.new) read) }
-    ensures lawful { IfOk result (λ read. IsLawfulScript read) }
+        (IsScriptRead (R.told source.old).left (R.told source.new).left) }
+    ensures lawful { IfOk result IsLawfulScript }
     ensures refused { IfErr result
-        (IsUnread (R.left source.old) (R.left source.new)
-        (Rose (R.faults source.old) (R.faults source.new))) }
-    ensures only { MatchResult result (λ _. R.faults source.new ≡ R.faults source.old)
-        (λ verdict. IfShort verdict (R.faults source.new ≡ R.faults source.old)) }
+        (IsUnread (R.told source.old).left (R.told source.new).left
+        (Rose (R.told source.old).faults (R.told source.new).faults)) }
+    ensures only { MatchResult result
+        (λ _. (R.told source.new).faults ≡ (R.told source.old).faults)
+        (λ verdict. IfShort verdict ((R.told source.new).faults ≡ (R.told source.old).faults)) }
 {
     let text = match read_all(alloc, source) {
         Ok(text) => text,
@@ -141,7 +86,6 @@ fn read_script<R: Source>(alloc: Global, source: &mut R) -> Result<Script, Verdi
 }
 
 /// Opens the bucket and the shelf, and a world over the bucket; or ends the call.
-#[tactic(auto, using(crate::proofs::Verdicts::run_told, crate::proofs::Verdicts::failed_later, crate::proofs::BucketAsked::none_asked, crate::proofs::BucketAsked::none_opened))]
 fn open_site<S: Site>(
     alloc: Global,
     script: &Script,
@@ -150,143 +94,26 @@ fn open_site<S: Site>(
     site: &mut S,
 ) -> Result<(World<S::Store>, Option<S::Files>), Ended<S::Store, S::Files>>
     requires lawful { IsLawfulScript script.now }
-    ensures site { IfOk result (λ ready. S.faults site.new ≡ S.faults site.old) }
-    ensures buckets { IfOk result (λ ready. S.buckets site.new ≡ S.buckets site.old + 1) }
-    ensures fresh { IfOk result (λ ready. ready.0.journal ≡ []) }
-    ensures tick { IfOk result (λ ready. ready.0.tick ≡ script.now.rules.tick.ms) }
-    ensures empty { IfOk result
-        (λ ready. IfSome (S.next_bucket site.old bucket.now) HoldsNothing) }
-    ensures unfailed { IfOk result (λ ready. S.Store.faults ready.0.bucket ≡ 0) }
-    ensures unread { IfOk result (λ ready. IfSome ready.1 (λ files. S.Files.faults files ≡ 0)) }
-    ensures unasked { IfOk result (λ ready. IfSome ready.1 (WasAsked S.Files.asked [])) }
-    ensures asked { IfOk result
-        (λ ready. WasAsked S.Store.asked for_opening ready.0.bucket) }
-    ensures opened { IfOk result (λ ready. is_some ready.1 ≡ is_some (named_by shelf.now)) }
-    ensures shelf { IfOk result
-        (λ ready. IsShelfOf S.shelves S.next_shelf S.Files.files (named_by shelf.now)
-        site.old site.new ready.1) }
-    ensures cause { IfErr result (λ ended. IsRun IsUndone (setting_of script.now)
-        (S.next_bucket site.old bucket.now)
-        (SiteFailed S.faults site.old site.new S.Store.faults ended.conclusion.store)
-        ended.conclusion.journal ended.conclusion.verdict) }
-    ensures short { IfErr result (λ ended. IfShort ended.conclusion.verdict
-        ((S.faults site.new ≡ S.faults site.old)
-        × IsUnfailed S.Store.faults 0 ended.conclusion.journal ended.conclusion.store)) }
-    ensures back_unread { IfErr result
-        (λ ended. IfSome ended.shelf (λ files. S.Files.faults files ≡ 0)) }
-    ensures back_unasked { IfErr result
-        (λ ended. IfSome ended.shelf (WasAsked S.Files.asked [])) }
-    ensures early { IfErr result (λ ended. IsEarly ended.conclusion.verdict) }
-    ensures back_opened { IfErr result (λ ended. BehindOpening ended.conclusion.verdict
-        (IsOpened (Some bucket.now) (named_by shelf.now) ended.conclusion.store ended.shelf)) }
-    ensures handed { IfErr result
-        (λ ended. IsHandedOut S.buckets site.old site.new ended.conclusion.store) }
-    ensures kept { IfErr result
-        (λ ended. is_some ended.conclusion.journal ≡ is_some ended.conclusion.store) }
-    ensures back { IfErr result
-        (λ ended. IsHandedBack S.Store.contents S.Store.faults ended.conclusion.journal
-        ended.conclusion.store) }
-    ensures unnoted { IfErr result (λ ended. ended.note ≡ None) }
-    ensures untouched { IfErr result (λ ended. IfSome (S.next_bucket site.old bucket.now)
-        (λ c. IsUntouched S.Store.contents c ended.conclusion.journal ended.conclusion.store)) }
-    ensures back_asked { IfErr result
-        (λ ended. ended.conclusion.verdict ≢ Verdict.NoMemory
-        → IsBucketAsked S.Store.asked ended.conclusion.verdict ended.conclusion.journal
-        ended.conclusion.store) }
-    ensures back_shelf { IfErr result
-        (λ ended. IsShelfOf S.shelves S.next_shelf S.Files.files (named_by shelf.now)
-        site.old site.new ended.shelf) }
-    ensures only_opened { IfErr result
-        (λ ended. IfSome ended.conclusion.store (WasOnlyOpened S.Store.asked)) }
+    ensures opened { IfOk result (λ ready.
+        IsOpen (site_call (S.told site.old) (S.told site.new) S.Store.told S.Files.told)
+        bucket.now (named_by shelf.now) script.now ready.0 ready.1) }
+    ensures ended { IfErr result
+        (HasNotOpened (site_call (S.told site.old) (S.told site.new) S.Store.told S.Files.told)
+        bucket.now (named_by shelf.now) script.now) }
 {
-    match site.open_bucket(bucket) {
-        Ok(bucket) => open_behind(alloc, script, bucket, shelf, site),
+    let store = match site.open_bucket(bucket) {
+        Ok(store) => store,
         Err(refusal) => {
-            Err(Ended {
-                conclusion: Conclusion::without_bucket(refusal_verdict(refusal)),
-                shelf: None,
-                note: None,
-            })
+            let conclusion = Conclusion::without_bucket(refusal_verdict(refusal));
+            return Err(Ended::early(conclusion, None));
         }
-    }
-}
-
-/// Opens the shelf, and a world over the bucket; or ends the call.
-fn open_behind<S: Site>(
-    alloc: Global,
-    script: &Script,
-    bucket: S::Store,
-    shelf: &str,
-    site: &mut S,
-) -> Result<(World<S::Store>, Option<S::Files>), Ended<S::Store, S::Files>>
-    requires lawful { IsLawfulScript script.now }
-    ensures site { IfOk result (λ ready. S.faults site.new ≡ S.faults site.old) }
-    ensures buckets { S.buckets site.new ≡ S.buckets site.old }
-    ensures fresh { IfOk result (λ ready. ready.0.journal ≡ []) }
-    ensures tick { IfOk result (λ ready. ready.0.tick ≡ script.now.rules.tick.ms) }
-    ensures empty { IfOk result (λ ready. IfSome (S.Store.contents bucket) HoldsNothing) }
-    ensures unfailed { IfOk result
-        (λ ready. S.Store.faults ready.0.bucket ≡ S.Store.faults bucket) }
-    ensures unread { IfOk result (λ ready. IfSome ready.1 (λ files. S.Files.faults files ≡ 0)) }
-    ensures unasked { IfOk result (λ ready. IfSome ready.1 (WasAsked S.Files.asked [])) }
-    ensures asked { IfOk result (λ ready. WasAsked S.Store.asked [] bucket
-        → WasAsked S.Store.asked for_opening ready.0.bucket) }
-    ensures opened { IfOk result (λ ready. is_some ready.1 ≡ is_some (named_by shelf.now)) }
-    ensures shelf { IfOk result
-        (λ ready. IsShelfOf S.shelves S.next_shelf S.Files.files (named_by shelf.now)
-        site.old site.new ready.1) }
-    ensures later { S.faults site.old ≤ S.faults site.new }
-    ensures cause { IfErr result (λ ended. IsRun IsUndone (setting_of script.now)
-        (S.Store.contents bucket)
-        (Rose (S.faults site.old) (S.faults site.new)
-        ⊎ IsSomeAnd ended.conclusion.store
-        (λ store. Rose (S.Store.faults bucket) (S.Store.faults store)))
-        ended.conclusion.journal ended.conclusion.verdict) }
-    ensures short { IfErr result (λ ended. IfShort ended.conclusion.verdict
-        ((S.faults site.new ≡ S.faults site.old)
-        × IsUnfailed S.Store.faults (S.Store.faults bucket) ended.conclusion.journal
-        ended.conclusion.store)) }
-    ensures back_unread { IfErr result
-        (λ ended. IfSome ended.shelf (λ files. S.Files.faults files ≡ 0)) }
-    ensures back_unasked { IfErr result
-        (λ ended. IfSome ended.shelf (WasAsked S.Files.asked [])) }
-    ensures early { IfErr result (λ ended. IsEarly ended.conclusion.verdict) }
-    ensures back_opened { IfErr result (λ ended. BehindOpening ended.conclusion.verdict
-        (is_some ended.shelf ≡ is_some (named_by shelf.now))) }
-    ensures store { IfErr result (λ ended. IsSome ended.conclusion.store) }
-    ensures journal { IfErr result (λ ended. IsSome ended.conclusion.journal) }
-    ensures back { IfErr result
-        (λ ended. IsHandedBack S.Store.contents S.Store.faults ended.conclusion.journal
-        ended.conclusion.store) }
-    ensures unnoted { IfErr result (λ ended. ended.note ≡ None) }
-    ensures untouched { IfErr result (λ ended. IfSome (S.Store.contents bucket)
-        (λ c. IsUntouched S.Store.contents c ended.conclusion.journal ended.conclusion.store)) }
-    ensures back_asked { IfErr result (λ ended. WasAsked S.Store.asked [] bucket
-        → ended.conclusion.verdict ≢ Verdict.NoMemory
-        → IsBucketAsked S.Store.asked ended.conclusion.verdict ended.conclusion.journal
-        ended.conclusion.store) }
-    ensures back_shelf { IfErr result
-        (λ ended. IsShelfOf S.shelves S.next_shelf S.Files.files (named_by shelf.now)
-        site.old site.new ended.shelf) }
-    ensures only_opened { IfErr result (λ ended. WasAsked S.Store.asked [] bucket
-        → IfSome ended.conclusion.store (WasOnlyOpened S.Store.asked)) }
-{
+    };
     match open_shelf(site, shelf) {
-        Ok(shelf) => match open_world(alloc, script, bucket) {
+        Ok(shelf) => match open_world(alloc, script, store) {
             Ok(world) => Ok((world, shelf)),
-            Err(conclusion) => Err(Ended {
-                conclusion,
-                shelf,
-                note: None,
-            }),
+            Err(conclusion) => Err(Ended::early(conclusion, shelf)),
         },
-        Err(refusal) => {
-            Err(Ended {
-                conclusion: without_shelf(alloc, refusal, bucket),
-                shelf: None,
-                note: None,
-            })
-        }
+        Err(refusal) => Err(Ended::early(without_shelf(alloc, refusal, store), None)),
     }
 }
 
@@ -297,30 +124,12 @@ fn open_world<B: Bucket>(
     bucket: B,
 ) -> Result<World<B>, Conclusion<B>>
     requires lawful { IsLawfulScript script.now }
-    ensures fresh { IfOk result (λ world. world.journal ≡ []) }
-    ensures tick { IfOk result (λ world. world.tick ≡ script.now.rules.tick.ms) }
-    ensures empty { IfOk result (λ world. IfSome (B.contents bucket) HoldsNothing) }
-    ensures unfailed { IfOk result (λ world. B.faults world.bucket ≡ B.faults bucket) }
-    ensures asked { IfOk result (λ world. WasAsked B.asked [] bucket
-        → WasAsked B.asked for_opening world.bucket) }
-    ensures cause { IfErr result (λ ended. IsRun IsUndone (setting_of script.now)
-        (B.contents bucket)
-        (IsSomeAnd ended.store (λ store. Rose (B.faults bucket) (B.faults store)))
-        ended.journal ended.verdict) }
-    ensures short { IfErr result (λ ended. IfShort ended.verdict
-        (IsUnfailed B.faults (B.faults bucket) ended.journal ended.store)) }
-    ensures early { IfErr result (λ ended. IsEarly ended.verdict) }
+    requires unused { IsUnused (B.told bucket) }
+    ensures opened { IfOk result (IsNewWorld B.told script.now) }
+    ensures empty { IfOk result (λ _. IfSome (B.told bucket).contents HoldsNothing) }
+    ensures ended { IfErr result (λ ended. IsUnopened B.told script.now (B.told bucket).contents
+        (IsSomeAnd ended.store (λ store. 0 < (B.told store).faults)) ended) }
     ensures store { IfErr result (λ ended. IsSome ended.store) }
-    ensures journal { IfErr result (λ ended. IsSome ended.journal) }
-    ensures back { IfErr result
-        (λ ended. IsHandedBack B.contents B.faults ended.journal ended.store) }
-    ensures untouched { IfErr result (λ ended. IfSome (B.contents bucket)
-        (λ c. IsUntouched B.contents c ended.journal ended.store)) }
-    ensures back_asked { IfErr result (λ ended. WasAsked B.asked [] bucket
-        → ended.verdict ≢ Verdict.NoMemory
-        → IsBucketAsked B.asked ended.verdict ended.journal ended.store) }
-    ensures only_opened { IfErr result (λ ended. WasAsked B.asked [] bucket
-        → IfSome ended.store (WasOnlyOpened B.asked)) }
 {
     match World::open(alloc, bucket, script.rules.tick) {
         Ok(world) => Ok(world),
@@ -346,21 +155,19 @@ fn unopened_verdict(refusal: OpenRefusal) -> Verdict
 }
 
 /// The shelf of a word, which names none where it is `none`.
-#[tactic(auto, using(crate::proofs::ShelfAsked::just_opened))]
+#[tactic(auto, using(crate::proofs::Openings::shelf_opened, crate::proofs::Openings::refusal_failed, crate::proofs::Openings::refusal_calm))]
 pub fn open_shelf<S: Site>(site: &mut S, word: &str) -> Result<Option<S::Files>, SiteRefusal>
-    ensures shelf { IfOk result (IsShelfOf S.shelves S.next_shelf S.Files.files
-        (named_by word.now) site.old site.new) }
-    ensures fresh { IfOk result (λ shelf. IfSome shelf (λ s. S.Files.faults s ≡ 0)) }
-    ensures unasked { IfOk result (λ shelf. IfSome shelf (WasAsked S.Files.asked [])) }
-    ensures named { IfOk result (λ shelf. is_some shelf ≡ is_some (named_by word.now)) }
-    ensures refused { IfErr result (λ _. S.shelves site.new ≡ S.shelves site.old) }
+    ensures opened { IfOk result (IsShelfOpen S.Files.told (named_by word.now)
+        (S.told site.old) (S.told site.new)) }
+    ensures refused { IfErr result (λ _. (S.told site.new).shelves ≡ (S.told site.old).shelves) }
     ensures asked { IfErr result (λ _. IsSome (named_by word.now)) }
-    ensures bucket { IsNotAsked S.buckets S.next_bucket site.old site.new }
-    ensures later { S.faults site.old ≤ S.faults site.new }
+    ensures bucket { AsksNoBucket (S.told site.old) (S.told site.new) }
+    ensures later { (S.told site.old).faults ≤ (S.told site.new).faults }
     ensures cause { IfErr result (λ refusal. refusal ≡ SiteRefusal.Failed
-        → Rose (S.faults site.old) (S.faults site.new)) }
-    ensures only { MatchResult result (λ _. S.faults site.new ≡ S.faults site.old)
-        (λ refusal. refusal ≢ SiteRefusal.Failed → S.faults site.new ≡ S.faults site.old) }
+        → Rose (S.told site.old).faults (S.told site.new).faults) }
+    ensures only { MatchResult result (λ _. (S.told site.new).faults ≡ (S.told site.old).faults)
+        (λ refusal. refusal ≢ SiteRefusal.Failed
+        → (S.told site.new).faults ≡ (S.told site.old).faults) }
 {
     if word == "none" {
         return Ok(None);
@@ -384,19 +191,13 @@ pub fn refusal_verdict(refusal: SiteRefusal) -> Verdict
 }
 
 /// What a call comes to whose shelf is not opened. Nothing is done to the bucket.
-#[tactic(auto, using(crate::proofs::Unfailed::unfailed_same))]
-pub fn without_shelf<B: Bucket>(alloc: Global, refusal: SiteRefusal, bucket: B) -> Conclusion<B>
+fn without_shelf<B: Bucket>(alloc: Global, refusal: SiteRefusal, bucket: B) -> Conclusion<B>
+    requires { IsUnused (B.told bucket) }
     ensures failed { refusal ≡ SiteRefusal.Failed → result.verdict ≡ Verdict.SiteFault }
     ensures none { refusal ≡ SiteRefusal.NoMemory → result.verdict ≡ Verdict.NoMemory }
-    ensures early { IsEarly result.verdict }
+    ensures ended { (script : Script) → IsUnopened B.told script (B.told bucket).contents
+        (refusal ≡ SiteRefusal.Failed) result }
     ensures store { result.store ≡ Some bucket }
-    ensures journal { result.journal ≡ Some [] }
-    ensures back { IsHandedBack B.contents B.faults result.journal result.store }
-    ensures unfailed { IsUnfailed B.faults (B.faults bucket) result.journal result.store }
-    ensures asked { WasAsked B.asked [] bucket → result.verdict ≢ Verdict.NoMemory
-        → IsBucketAsked B.asked result.verdict result.journal result.store }
-    ensures only_opened { WasAsked B.asked [] bucket
-        → IfSome result.store (WasOnlyOpened B.asked) }
 {
     Conclusion::with_bucket(refusal_verdict(refusal), Journal::empty(alloc), bucket)
 }

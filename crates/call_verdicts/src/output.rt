@@ -12,10 +12,12 @@ pub struct SinkFault;
 /// Writes all of the text, piece by piece.
 pub fn write_all<K: Sink>(out: &mut K, text: &[u8]) -> Result<(), SinkFault>
     ensures whole { OnOk result
-        (K.written out.new ≡ option_map (λ before. before ++ text.now) (K.written out.old)) }
-    ensures part { OnErr result (IsWrittenInPart text.now (K.written out.old) (K.written out.new)) }
-    ensures later { K.faults out.old ≤ K.faults out.new }
-    ensures cause { OnErr result (Rose (K.faults out.old) (K.faults out.new)) }
+        ((K.told out.new).written
+        ≡ option_map (λ before. before ++ text.now) (K.told out.old).written) }
+    ensures part { OnErr result
+        (IsWrittenInPart text.now (K.told out.old).written (K.told out.new).written) }
+    ensures later { (K.told out.old).faults ≤ (K.told out.new).faults }
+    ensures cause { OnErr result (Rose (K.told out.old).faults (K.told out.new).faults) }
 {
     let mut left = text;
     while !left.is_empty() {

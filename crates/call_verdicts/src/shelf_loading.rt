@@ -23,12 +23,12 @@ pub(crate) fn load_group<F: Shelf>(
     shelf: F,
 ) -> (Result<Vec<Stage>, Verdict>, F)
     ensures loaded { IfOk result.0
-        (λ stages. AllZip (IsLoadedFor (F.files shelf)) group.now stages.items) }
-    ensures broken { IfErr result.0 (WhyUnread (F.faults shelf) (F.faults result.1)) }
-    ensures calm { IfOk result.0 (λ _. F.faults result.1 ≡ F.faults shelf) }
-    ensures asked { (front : List Block) → WasRead F.asked (shelf_ulids front) shelf
-        → WasRead F.asked (shelf_ulids (front ++ group.now)) result.1 }
-    ensures same { F.files result.1 ≡ F.files shelf }
+        (λ stages. AllZip (IsLoadedFor (F.told shelf).files) group.now stages.items) }
+    ensures broken { IfErr result.0 (WhyUnread (F.told shelf).faults (F.told result.1).faults) }
+    ensures calm { IfOk result.0 (λ _. (F.told result.1).faults ≡ (F.told shelf).faults) }
+    ensures asked { (front : List Block) → WasRead F.told (shelf_ulids front) shelf
+        → WasRead F.told (shelf_ulids (front ++ group.now)) result.1 }
+    ensures same { (F.told result.1).files ≡ (F.told shelf).files }
 {
     let mut shelf = shelf;
     let mut stages = Vec::new(alloc);
@@ -52,11 +52,11 @@ fn load_next<F: Shelf>(
     shelf: F,
 ) -> (Result<(), Verdict>, F)
     ensures loaded { IfOk result.0
-        (λ _. IsLoadedNext (F.files shelf) block.now stages.old.items stages.new.items) }
-    ensures broken { IfErr result.0 (WhyUnread (F.faults shelf) (F.faults result.1)) }
-    ensures calm { IfOk result.0 (λ _. F.faults result.1 ≡ F.faults shelf) }
-    ensures asks { AsksFor F.asked shelf result.1 block.now }
-    ensures same { F.files result.1 ≡ F.files shelf }
+        (λ _. IsLoadedNext (F.told shelf).files block.now stages.old.items stages.new.items) }
+    ensures broken { IfErr result.0 (WhyUnread (F.told shelf).faults (F.told result.1).faults) }
+    ensures calm { IfOk result.0 (λ _. (F.told result.1).faults ≡ (F.told shelf).faults) }
+    ensures asks { AsksFor F.told shelf result.1 block.now }
+    ensures same { (F.told result.1).files ≡ (F.told shelf).files }
 {
     match &block.body {
         Body::OnShelf => {
@@ -78,11 +78,12 @@ fn load_next<F: Shelf>(
 
 /// Loads a block of the shelf.
 fn load_block<F: Shelf>(alloc: Global, ulid: Ulid, shelf: F) -> (Result<Stage, Verdict>, F)
-    ensures loaded { IfOk result.0 (IsStageOf (F.files shelf) ulid) }
-    ensures broken { IfErr result.0 (WhyUnread (F.faults shelf) (F.faults result.1)) }
-    ensures calm { IfOk result.0 (λ _. F.faults result.1 ≡ F.faults shelf) }
-    ensures asks { (count : ℕ) × Asks F.asked shelf result.1 (names_read ulid count) }
-    ensures same { F.files result.1 ≡ F.files shelf }
+    ensures loaded { IfOk result.0 (IsStageOf (F.told shelf).files ulid) }
+    ensures broken { IfErr result.0 (WhyUnread (F.told shelf).faults (F.told result.1).faults) }
+    ensures calm { IfOk result.0 (λ _. (F.told result.1).faults ≡ (F.told shelf).faults) }
+    ensures asks { (count : ℕ)
+        × Asks (F.told shelf).asked (F.told result.1).asked (names_read ulid count) }
+    ensures same { (F.told result.1).files ≡ (F.told shelf).files }
 {
     let mut shelf = shelf;
     let loaded = LoadedBlock::load(alloc, &mut shelf, ulid);

@@ -10,8 +10,8 @@ ghost use Rattle.block_loading.specs.Loading.{AreWithinLimit};
 ghost use Rattle.script_core.specs.Lawful.{IsLawfulScript};
 ghost use Rattle.script_core.specs.declared.block.Block.{Block};
 ghost use Rattle.report_lines.specs.script_running.specs.Shelves.{AreAllAtHand, IsHeld, read_as, setting_by};
-ghost use Rattle.call_verdicts.specs.Asked.{WasAsked, WasRead, shelf_ulids};
-ghost use Rattle.call_verdicts.specs.Checks.{HasFailed, files_in};
+ghost use Rattle.call_verdicts.specs.Asked.{WasAsked, WasRead, names_asked, shelf_ulids};
+ghost use Rattle.call_verdicts.specs.Checks.{HasFailed, files_held, files_in};
 ghost use Rattle.call_verdicts.specs.ShelfReads.{AreRead, IsBrokenOff, IsOfShelf, IsReadBy, IsReadNext, WhyUnread};
 ghost use Rattle.call_verdicts.specs.Stages.{IsEndedFor};
 ghost use Rattle.call_verdicts.specs.Verdicts.{IfShort};
@@ -42,19 +42,19 @@ pub fn read_blocks<F: Shelf, W: CheckWay>(
     ensures at_hand { IfOk result.0 (λ blocks. AreAllAtHand script.now blocks) }
 
     // Where the shelf tells its files, what was read is of them.
-    ensures told { IfOk result.0 (λ blocks. IfSome (files_in F.files shelf)
+    ensures told { IfOk result.0 (λ blocks. IfSome (files_in F.told shelf)
         (IsOfShelf (setting_by script.now blocks))) }
 
     // Reading is broken off where the shelf fails, or memory is wanting.
-    ensures broken { IfErr result.0 (IsBrokenOff (HasFailed F.faults shelf result.1)) }
-    ensures calm { IfSome shelf (λ files. F.faults files ≡ 0)
-        → MatchResult result.0 (λ _. IfSome result.1 (λ files. F.faults files ≡ 0))
-        (λ verdict. IfShort verdict (IfSome result.1 (λ files. F.faults files ≡ 0))) }
+    ensures broken { IfErr result.0 (IsBrokenOff (HasFailed F.told shelf result.1)) }
+    ensures calm { IfSome shelf (λ files. (F.told files).faults ≡ 0)
+        → MatchResult result.0 (λ _. IfSome result.1 (λ files. (F.told files).faults ≡ 0))
+        (λ verdict. IfShort verdict (IfSome result.1 (λ files. (F.told files).faults ≡ 0))) }
 
     // Files of these blocks are asked for, and no others, each once.
-    ensures asked { IfSome shelf (WasAsked F.asked [])
-        → IfSome result.1 (WasRead F.asked (shelf_ulids script.now.blocks)) }
-    ensures same { option_map F.files result.1 ≡ option_map F.files shelf }
+    ensures asked { IfSome shelf (WasAsked (names_asked F.told) [])
+        → IfSome result.1 (WasRead F.told (shelf_ulids script.now.blocks)) }
+    ensures same { option_map (files_held F.told) result.1 ≡ option_map (files_held F.told) shelf }
 {
     match shelf {
         Some(shelf) => {
@@ -74,12 +74,12 @@ fn read_each<F: Shelf, W: CheckWay>(
 ) -> (ReadBlocks, F)
     requires { W.can_check way.now }
     ensures read { IfOk result.0
-        (λ read. AreRead (F.files shelf) blocks.now read) }
-    ensures broken { IfErr result.0 (WhyUnread (F.faults shelf) (F.faults result.1)) }
-    ensures calm { IfOk result.0 (λ _. F.faults result.1 ≡ F.faults shelf) }
-    ensures asked { WasAsked F.asked [] shelf
-        → WasRead F.asked (shelf_ulids blocks.now) result.1 }
-    ensures same { F.files result.1 ≡ F.files shelf }
+        (λ read. AreRead (F.told shelf).files blocks.now read) }
+    ensures broken { IfErr result.0 (WhyUnread (F.told shelf).faults (F.told result.1).faults) }
+    ensures calm { IfOk result.0 (λ _. (F.told result.1).faults ≡ (F.told shelf).faults) }
+    ensures asked { WasAsked (names_asked F.told) [] shelf
+        → WasRead F.told (shelf_ulids blocks.now) result.1 }
+    ensures same { (F.told result.1).files ≡ (F.told shelf).files }
 {
     let mut shelf = shelf;
     let mut read = ShelfBlockList::new(alloc);
@@ -115,13 +115,13 @@ fn read_group<F: Shelf, W: CheckWay>(
     way: &W,
 ) -> (Result<(), Verdict>, F)
     requires { W.can_check way.now }
-    ensures read { (before : List Block) → AreRead (F.files shelf) before read.old
-        → IfOk result.0 (λ _. AreRead (F.files shelf) (before ++ group.now) read.new) }
-    ensures broken { IfErr result.0 (WhyUnread (F.faults shelf) (F.faults result.1)) }
-    ensures calm { IfOk result.0 (λ _. F.faults result.1 ≡ F.faults shelf) }
-    ensures asked { (front : List Block) → WasRead F.asked (shelf_ulids front) shelf
-        → WasRead F.asked (shelf_ulids (front ++ group.now)) result.1 }
-    ensures same { F.files result.1 ≡ F.files shelf }
+    ensures read { (before : List Block) → AreRead (F.told shelf).files before read.old
+        → IfOk result.0 (λ _. AreRead (F.told shelf).files (before ++ group.now) read.new) }
+    ensures broken { IfErr result.0 (WhyUnread (F.told shelf).faults (F.told result.1).faults) }
+    ensures calm { IfOk result.0 (λ _. (F.told result.1).faults ≡ (F.told shelf).faults) }
+    ensures asked { (front : List Block) → WasRead F.told (shelf_ulids front) shelf
+        → WasRead F.told (shelf_ulids (front ++ group.now)) result.1 }
+    ensures same { (F.told result.1).files ≡ (F.told shelf).files }
 {
     let (loaded, shelf) = load_group(alloc, group, shelf);
     match loaded {

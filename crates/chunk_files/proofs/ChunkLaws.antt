@@ -1,10 +1,10 @@
 -- What is read is in the grammar, and what is in the grammar is read.
-use Rattle.std.proofs.Common.{◌≡◌, ℕ, ◌+◌, ◌<◌, Bool, true, false, cond, List, [], ◌∷◌, ◌++◌, length, get_or, drop, Result, Ok, Err, refl, sym, ap, subst, ◌∙◌, append_assoc, arith}
+use Rattle.std.proofs.Common.{◌≡◌, ℕ, ◌+◌, ◌<◌, ◌≤◌, Bool, true, false, cond, List, [], ◌∷◌, ◌++◌, length, get_or, drop, Result, Ok, Err, refl, sym, ap, subst, ◌∙◌, append_assoc, arith}
 use Rattle.std.specs.Prelude.{◌==◌, ◌||◌, nat_le, IfOk}
 use Rattle.std.specs.Result.{IsOkAnd}
 use Rattle.std.specs.Int.{w8, w32}
 use Rattle.std.proofs.lemmas.Bool.{leb-true, le-leb, eqb-true, eq-eqb}
-use Rattle.std.proofs.lemmas.List.{drop_at, drop_all}
+use Rattle.std.proofs.lemmas.List.{drop_at, drop_all, length-append, length-drop}
 use Rattle.base.specs.Reading.{◌>>◌, unless, refused_as, Answers}
 use Rattle.base.specs.Grammar.{IsBytes, HasFront}
 use Rattle.base.proofs.Fronts.{IsBytes-after, IsBytes-drop}
@@ -120,6 +120,15 @@ place_found segment offset content are e =
 pub place_again : (segment : List ℕ) (offset : ℕ) (content : List ℕ) → IsPlace segment offset content → segment_at segment offset ≡ Ok content
 unfolding segment_at
 place_again segment offset content h = rw (header_again segment h.begins, le-leb header_size offset h.behind) (chunk_again (drop offset segment) content h.stands)
+
+-- data has fewer bytes than that at whose front it stands
+pub front_few : (part content : List ℕ) → IsFront part content → length content ≤ length part
+front_few part content h =
+    let is = h.1.1 in
+    omega (arith, ap length h.1.2, ap length is.text_is, length-append (is.size ++ (xor ∷ content)) is.sum, length-append is.size (xor ∷ content), length-append h.1.0 h.0)
+
+pub place_few : (segment : List ℕ) (offset : ℕ) (content : List ℕ) → IsPlace segment offset content → length content ≤ length segment
+place_few segment offset content h = omega (arith, front_few (drop offset segment) content h.stands, length-drop offset segment)
 
 -- a place past the end
 past_end : chunk_at [] ≡ Err Short

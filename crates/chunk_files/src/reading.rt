@@ -1,4 +1,7 @@
-ghost use Rattle.std.specs.Prelude.{◌≡◌, ◌+◌, ◌<◌, ◌∷◌, IfOk, ℕ, List, slice_index, drop, length};
+//! Chunks out of a segment file: each is lent where it lies, once its sum is found right. Histograms have a refusal of
+//! their own, since they are no damage, but samples of a kind that nothing here reads.
+
+ghost use Rattle.std.specs.Prelude.{◌≡◌, ◌+◌, ◌<◌, ◌≤◌, ◌∷◌, IfOk, ℕ, List, slice_index, drop, length};
 ghost use Rattle.std.specs.Result.{IsOkAnd};
 ghost use Rattle.base.specs.Grammar.{IsBytes};
 ghost use Rattle.base.specs.Reading.{Answers, Steps, refused_as};
@@ -93,6 +96,7 @@ pub fn take_chunk<'a>(part: &'a [u8]) -> Result<&'a [u8], ChunkRefusal>
 
     // The first refusal in the order of its cases.
     ensures exact { Answers (λ content. content.now) result (chunk_at part.now) }
+    ensures few { IfOk result (λ content. length content.now ≤ length part.now) }
 {
     chunk_of(part)
 }
@@ -106,6 +110,7 @@ pub fn read_chunk<'a>(segment: &'a [u8], offset: u64) -> Result<&'a [u8], ChunkR
 
     // The first refusal in the order of its cases.
     ensures exact { Answers (λ content. content.now) result (segment_at segment.now offset) }
+    ensures few { IfOk result (λ content. length content.now ≤ length segment.now) }
 {
     segment_chunk(segment, offset)
 }
@@ -121,6 +126,7 @@ pub fn read_summed<'a>(segment: &'a [u8], offset: u64) -> Result<(&'a [u8], u32)
 
     // The first refusal in the order of its cases.
     ensures exact { Answers (λ read. read.0.now) result (segment_at segment.now offset) }
+    ensures few { IfOk result (λ read. length read.0.now ≤ length segment.now) }
 {
     segment_summed(segment, offset)
 }

@@ -1,3 +1,6 @@
+//! A segment file that grows chunk by chunk, up to the longest file that a shelf gives. A chunk that a compaction
+//! carries over unchanged brings its sum along, which was tested when the chunk was read.
+
 ghost use Rattle.std.specs.Prelude.{◌≡◌, ◌↔◌, ◌+◌, ◌<◌, ◌∷◌, ◌++◌, ℕ, List, length, take, IsTrue, IfOk, IfSome, OnOk, OnErr, Err, ◌≤◌, ◌^◌};
 ghost use Rattle.wire_bytes.specs.FieldTexts.{IsUvarint};
 ghost use Rattle.wire_bytes.specs.Written.{uvarint_text};

@@ -1,3 +1,6 @@
+//! The machine of a cleaning, the one activity that deletes. Of a block the meta goes first, so that no later sync
+//! finds it, and the mark goes last, so that the next cleaning takes up what an interrupted one has left.
+
 ghost use Rattle.std.specs.Prelude.{◌≡◌, ◌+◌, ◌-◌, ◌*◌, ◌≤◌, ℕ, List, [], ◌∷◌, ◌++◌, length, Option, Some, IfOk, IsTrue, IsSomeAnd};
 ghost use Rattle.world_core.specs.Machines.{GoesOn, Falls};
 ghost use Rattle.world_core.specs.Operations.{IsAnswer, entry_of};

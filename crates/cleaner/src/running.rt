@@ -1,8 +1,8 @@
 //! A cleaning, begun and driven through a hand.
 
-ghost use Rattle.std.specs.Prelude.{◌≡◌, ◌≤◌, ◌||◌, ◌⊎◌, IfSome, IsTrue};
-ghost use Rattle.world_core.specs.Keeping.{IsFull};
-ghost use Rattle.world_core.specs.Machines.{Drives, is_driven_full};
+ghost use Rattle.std.specs.Prelude.{◌≤◌};
+ghost use Rattle.world_core.specs.Machines.{Drives, is_driven_full, is_driven_wanting};
+ghost use Rattle.world_core.specs.Turning.{Turned};
 ghost use Rattle.cleaner.specs.Cleanings.{CleanRun};
 
 use crate::{Clean, CleanEnd};
@@ -18,14 +18,10 @@ pub fn run_cleaning<H: Hand>(
     hand: &mut H,
 ) -> Driven<CleanEnd>
     requires { 1 ≤ rules.now.page_limit }
-    ensures run { Drives (CleanRun rules.now) (H.seat hand.old) stop result (H.entries hand.old)
-        (H.entries hand.new) }
-    ensures seat { H.seat hand.new ≡ H.seat hand.old }
-    ensures keeps { H.keeps hand.old hand.new }
-    ensures wanted { IsTrue (H.wanted hand.new)
-        → IsTrue (H.wanted hand.old) ⊎ (result ≡ Driven.NoMemory) }
-    ensures refused { H.refused hand.new ≡ (H.refused hand.old || is_driven_full result) }
-    ensures full { result ≡ Driven.Full → IfSome (H.front hand.new) IsFull }
+    ensures run { Drives (CleanRun rules.now)
+        (H.told hand.old).seat stop result (H.told hand.old).entries (H.told hand.new).entries }
+    ensures hand { Turned H.told H.keeps hand.old hand.new (is_driven_full result)
+        (is_driven_wanting result) }
 {
     run_begun(Clean::start(alloc, rules), stop, hand)
 }

@@ -1,3 +1,6 @@
+//! How the names of a bucket are gone through, page by page. A bucket is not trusted to list in order: behind names
+//! that do not ascend nobody knows what is still to come, so the walk ends there, and at a million names.
+
 ghost use Rattle.std.specs.Prelude.{◌≡◌, ◌+◌, ◌<◌, ◌≤◌, ◌^◌, [], length, None, unwrap_or, Ok, IfOk};
 ghost use Rattle.world_core.specs.Limits.{most_listed};
 ghost use Rattle.world_core.specs.Walks.{last_listed};

@@ -7,7 +7,7 @@ use base::NoMemory;
 use block_content::{CheckRefusal, read_index};
 use block_keys::SEGMENT_LIMIT;
 use index_parts::ChunkPlace;
-use index_v2::IndexSeries;
+use index_v2::LentSeries;
 use std::alloc::Global;
 
 /// The greatest number of a segment that an index names, and none where the bytes are no index or that is no number of a segment.
@@ -52,12 +52,12 @@ fn last_of_chunks(before: u64, chunks: &[ChunkPlace]) -> u64
 }
 
 /// The greatest number of a segment that series name, and 0 where they name none.
-fn last_named(indexed: &[IndexSeries]) -> u64
+fn last_named(indexed: &[LentSeries<'_>]) -> u64
     ensures { result ≡ last_named_by indexed.now }
 {
     let mut last = 0;
     for one in indexed {
-        last = last_of_chunks(last, one.chunks.members());
+        last = last_of_chunks(last, one.chunks());
     }
     last
 }

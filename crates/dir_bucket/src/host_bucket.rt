@@ -3,7 +3,7 @@
 
 ghost use Rattle.std.specs.Prelude.{◌≡◌};
 
-use crate::DirBucket;
+use crate::{DirBucket, Trouble};
 use bucket_core::{
     Bucket, CallNotes, DeleteAnswer, GetAnswer, MemoryBucket, PageAnswer, PutAnswer,
 };
@@ -17,17 +17,24 @@ pub enum HostBucket<R: Files + AllocGlobal + Clone + Drop> {
     Folder(DirBucket<R>, CallNotes),
 }
 
+impl<R: Files + AllocGlobal + Clone + Drop> HostBucket<R> {
+    ghost use Rattle.dir_bucket.specs.HostBucket.{trouble_of};
+
+    /// Why the first of its calls failed that did. A bucket in memory fails by no fault of the system.
+    pub fn trouble(&self) -> Option<Trouble>
+        ensures { result ≡ trouble_of self.now }
+    {
+        match self {
+            HostBucket::Memory(_, _) => None,
+            HostBucket::Folder(bucket, _) => bucket.trouble(),
+        }
+    }
+}
+
 impl<R: Files + AllocGlobal + Clone + Drop> Bucket for HostBucket<R> {
-    ghost use Rattle.std.specs.Prelude.{Some};
-    ghost use Rattle.dir_bucket.specs.HostBucket.{calls_noted, contents_told, faults_counted, IsQuiet, told_is_key};
+    ghost use Rattle.dir_bucket.specs.HostBucket.{bucket_told, told_is_key};
 
-    ghost contents = { contents_told };
-
-    ghost asked = { λ bucket. Some (calls_noted bucket) };
-
-    ghost faults = { faults_counted };
-
-    ghost quiet = { IsQuiet };
+    ghost told = { bucket_told };
 
     ghost only_keys = { told_is_key };
 

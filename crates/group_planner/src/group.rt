@@ -1,3 +1,6 @@
+//! Which blocks belong together: those of one resolution whose external labels differ in replica labels alone. So the
+//! blocks of replicas fall into one group, and become one block without them.
+
 ghost use Rattle.std.specs.Prelude.{◌≡◌, ◌++◌, ◌∷◌, ◌&&◌, [], List, map, IfOk, OnOk};
 ghost use Rattle.std.specs.List.Sorted.{IsSortedBy};
 ghost use Rattle.std.specs.Ordering.{int_eq, is_eq};
@@ -7,7 +10,7 @@ ghost use Rattle.group_planner.specs.Cuts.{IsCut, CutsFurther, has_lesser_key};
 
 use crate::MetaList;
 use crate::keyed::{Keyed, metas_in_order, sort_by_key, with_keys};
-use base::{List, NoMemory};
+use base::{List, NoMemory, TryCopy};
 use block_meta::Meta;
 use label_sets::{LabelSet, TextList};
 use std::alloc::Global;
@@ -19,6 +22,16 @@ pub struct Group {
     pub resolution: i64,
     pub labels: LabelSet,
     pub members: MetaList,
+}
+
+impl TryCopy for Group {
+    fn copy(&self) -> Result<Self, NoMemory> {
+        Ok(Group {
+            resolution: self.resolution,
+            labels: self.labels.copy()?,
+            members: self.members.copy()?,
+        })
+    }
 }
 
 /// Groups of blocks.

@@ -1,3 +1,6 @@
+//! Blocks with what their group is told by. They are put in the order of time first and then, keeping that, in the
+//! order of groups, so that each group stands together with its members as the planner asks for them.
+
 ghost use Rattle.std.specs.Prelude.{◌≡◌, map, IfOk, OnOk};
 ghost use Rattle.std.specs.List.Sorted.{IsSortedBy, IsStableBy, IsPermutation};
 ghost use Rattle.std.specs.Ordering.{int_cmp, ordering_then};

@@ -1,3 +1,6 @@
+//! Blocks whose times overlap, as those of replicas do. They are planned before all others: only their merge removes
+//! what they have twice (vertical compaction).
+
 ghost use Rattle.std.specs.Prelude.{◌≡◌, ◌++◌, ◌≤◌, ◌<◌, ◌+◌, ◌==◌, [], if◌then◌else◌, int_lt, List, length, take, drop, IfOk};
 ghost use Rattle.block_meta.specs.declared.meta.Meta.{Meta};
 ghost use Rattle.group_planner.specs.Members.{ulids_of as ulids_of_all};

@@ -1,3 +1,6 @@
+//! Stretches of time at multiples of a length, as the levels of Prometheus' compaction have them: blocks of one stretch
+//! become one block, which again lies within a stretch of each greater length.
+
 ghost use Rattle.std.specs.Prelude.{◌≡◌, ◌≤◌, ◌+ℤ◌, ◌<ℤ◌, ◌≤ℤ◌, neg_ℤ, pos, ◌^◌, ℤ, [], List, map, length, take, drop, IfOk, MatchOption};
 ghost use Rattle.block_meta.specs.declared.meta.Meta.{Meta};
 ghost use Rattle.label_sets.specs.Limits.{time_limit};

@@ -25,7 +25,7 @@ pub fn plan(alloc: Global, group: &Group) -> Result<UlidList, NoMemory>
     ulids_of(alloc, planned_metas(group.members.members()))
 }
 
-/// The same plan as the metas of its blocks, which stand next to each other among the members.
+/// The plan of a group's members, as the metas of its blocks. They stand next to each other among the members.
 pub fn planned_metas(metas: &[Meta]) -> &[Meta]
     ensures { IsPlan metas.now result.now }
 {

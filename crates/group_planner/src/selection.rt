@@ -1,3 +1,6 @@
+//! Which blocks without overlaps are compacted: those of the shortest stretch that is due. It is due once its blocks
+//! fill it, or once a later block begins behind them, so that no more is to be expected.
+
 ghost use Rattle.std.specs.Prelude.{◌≡◌, ◌<ℤ◌, ◌-ℤ◌, int_le, pos, ℤ, List, All, IfOk, MatchOption, Some, None};
 ghost use Rattle.std.specs.List.{find};
 ghost use Rattle.std.specs.Option.{option_copied};

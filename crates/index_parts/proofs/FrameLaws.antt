@@ -1,5 +1,5 @@
 -- The frames of sections: what is read is in the grammar, and what is in the grammar is read.
-use Rattle.std.proofs.Common.{◌≡◌, ℕ, ◌+◌, ◌≤◌, List, ◌++◌, length, take, drop, Ok, refl, sym, ap, subst, ◌∙◌, append_assoc, length-append, arith, Result}
+use Rattle.std.proofs.Common.{◌≡◌, ℕ, ◌+◌, ◌<◌, ◌≤◌, List, ◌++◌, length, take, drop, Ok, refl, sym, ap, subst, ◌∙◌, append_assoc, length-append, arith, Result}
 use Rattle.std.specs.Prelude.{◌==◌}
 use Rattle.std.specs.Int.{w32}
 use Rattle.std.proofs.lemmas.Bool.{eqb-true, eq-eqb}
@@ -99,3 +99,9 @@ pub framed_small : (IsSize : List ℕ → ℕ → Type 0) (index : List ℕ) (at
 framed_small IsSize index at content is =
     let e = ap length is.stands in
     omega (arith, length-drop at index, length-append (is.size ++ content ++ is.sum) is.after, length-append (is.size ++ content) is.sum, length-append is.size content)
+
+-- a content that has bytes ends within the index
+pub framed_within : (IsSize : List ℕ → ℕ → Type 0) (index : List ℕ) (at : ℕ) (content : List ℕ) → IsFramed IsSize index at content → 0 < length content → at + length content ≤ length index
+framed_within IsSize index at content is some =
+    let e = ap length is.stands in
+    omega (arith, some, length-drop at index, length-append (is.size ++ content ++ is.sum) is.after, length-append (is.size ++ content) is.sum, length-append is.size content)

@@ -14,6 +14,7 @@ pub mod SameNames
 pub mod TocLaws
 pub mod ChunkLaws
 pub mod SeriesLaws
+pub mod Passing
 pub mod RowPlaces
 pub mod RowsBegin
 pub mod SeriesOrder

@@ -175,11 +175,19 @@ series_again index at series is =
     let chunks = counted_again IsNextChunk chunk_at chunk_turn chunk_count.0 is.chunks is.left_over series.chunks is.chunks_are chunk_count.2 in
     rw (entry.1, label_count.1, labels.1, chunk_count.1, chunks) refl
 
-pub series_few : (index : List ℕ) (at : ℕ) (series : RawSeries) → IsSeries index at series → length series.names + length series.values + 3 * length series.chunks ≤ length index
-series_few _ at series is =
-    let small = framed_small _ _ at is.content is.entry in
+-- what a series has is no more than what its content takes
+pub content_few : (index : List ℕ) (at : ℕ) (series : RawSeries) (is : IsSeries index at series) → length series.names + length series.values + 3 * length series.chunks ≤ length is.content
+content_few _ at series is =
     let labels = labels_few _ _ is.labels_are in
     let chunks = turns_few _ 3 chunk_size _ _ _ is.chunks_are in
     let many = length-zip _ _ is.as_many in
     let whole = ap length (is.content_is ∙ regroup _ is.labels is.chunk_count is.chunks is.left_over) in
     omega (arith, length-append is.label_count (is.labels ++ (is.chunk_count ++ (is.chunks ++ is.left_over))), length-append is.labels (is.chunk_count ++ (is.chunks ++ is.left_over)), length-append is.chunk_count (is.chunks ++ is.left_over), length-append is.chunks is.left_over)
+
+pub content_some : (index : List ℕ) (at : ℕ) (series : RawSeries) (is : IsSeries index at series) → 1 ≤ length is.content
+content_some _ at series is =
+    let whole = ap length (is.content_is ∙ regroup _ is.labels is.chunk_count is.chunks is.left_over) in
+    omega (arith, uvarint_size _ _ is.label_count_is, length-append is.label_count (is.labels ++ (is.chunk_count ++ (is.chunks ++ is.left_over))))
+
+pub series_few : (index : List ℕ) (at : ℕ) (series : RawSeries) → IsSeries index at series → length series.names + length series.values + 3 * length series.chunks ≤ length index
+series_few index at series is = omega (arith, content_few index at series is, framed_small _ _ at is.content is.entry)

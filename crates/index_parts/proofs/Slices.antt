@@ -4,10 +4,10 @@ use Rattle.std.specs.Int.{w32, from_be_bytes}
 use Rattle.std.specs.Result.{IsOkAnd}
 use Rattle.wire_bytes.specs.declared.varint.WireRefusal.{WireRefusal}
 use Rattle.wire_bytes.specs.declared.varint.WireRefusal.TheVariants as wire
-use Rattle.std.proofs.lemmas.Bool.{cases_lt, le-leb, leb-true, false_from_ne_true}
+use Rattle.std.proofs.lemmas.Bool.{cases_lt, le-leb, leb-true, lt-ltb, le-ltb, false_from_ne_true}
 use Rattle.base.proofs.Binds.{cond_is, by_result}
-use Rattle.std.specs.Prelude.{nat_lt, nat_le}
-use Rattle.std.proofs.lemmas.List.{length-drop, length-append, length-replicate, drop-append-le, drop-drop, drop_at}
+use Rattle.std.specs.Prelude.{Bool, nat_lt, nat_le, if◌then◌else◌}
+use Rattle.std.proofs.lemmas.List.{length-drop, length-append, length-replicate, take-append-le, drop-append-le, drop-drop, drop_at}
 use Rattle.wire_bytes.specs.Position.{Position, left, further}
 use Rattle.wire_bytes.specs.Fields.{number_at}
 use Rattle.wire_bytes.specs.FieldTexts.{IsFixed}
@@ -20,7 +20,7 @@ use Rattle.index_parts.specs.Framing.{summed_at, framed_at}
 use Rattle.index_parts.specs.Lists.{IsList}
 use Rattle.index_parts.specs.ListReading.{list_at}
 use Rattle.index_parts.specs.PostingsReading.{posting_at, postings_at}
-use Rattle.index_parts.specs.Parts.{Part, known, is_before, list_in, IsPartOf, LiesIn, HoldsSection}
+use Rattle.index_parts.specs.Parts.{Part, file, known, is_before, list_in, IsPartOf, LiesIn, HoldsSection, told, list_size}
 use Rattle.index_parts.specs.Shifting.{shifted_refusal, FitsShifted}
 use Rattle.index_parts.proofs.Shifts.{IsWithin, IsMoved, IsSame, SameBy}
 use Rattle.index_parts.proofs.FieldShifts.{StepBy, IsField, number_field}
@@ -251,3 +251,27 @@ list_known read turned part index at is lies =
 
 pub list_of_index : (part : Part) (index : List ℕ) (at : ℕ) → IsPartOf part index → HoldsSection part at → list_in part at ≡ postings_at index at
 list_of_index part index at is lies = list_here part at lies.0 ∙ list_known posting_at posting_turned part index at is lies
+
+-- ---- how long a list is said to be
+
+size_told : (p : Position) → 4 ≤ length (left p) → told (number_at w32 p) ≡ from_be_bytes w32 (take 4 (left p))
+unfolding number_at
+size_told p enough = rw (le-ltb (length (left p)) 4 enough) refl
+
+some_four : (P : ℕ × Position → Type 0) (p : Position) → IsOkAnd (number_at w32 p) P → 4 ≤ length (left p)
+unfolding number_at
+some_four P p is =
+    elim (cases_lt (length (left p)) 4) [
+      | inl few ↦ absurd (subst (λ (b : Bool). IsOkAnd (if b then Err wire.Short else Ok (from_be_bytes w32 (take 4 (left p)), further 4 p)) P) (lt-ltb (length (left p)) 4 few) is)
+      | inr enough ↦ enough
+    ]
+
+pub size_of_index : (part : Part) (index : List ℕ) (at : ℕ) → IsPartOf part index → HoldsSection part at → list_size part at ≡ list_size (file index) at
+size_of_index part index at is lies =
+    let k = at - part.begin in
+    let four = some_four (λ (size : ℕ × Position). size.1.place + size.0 + 4 ≤ length part.bytes) (at_place part.bytes k) lies.1 in
+    let stands : drop at index ≡ drop k part.bytes ++ is.after = dropped part index at is lies.0 (omega (arith, four, length-drop k part.bytes)) in
+    let here : told (number_at w32 (at_place part.bytes k)) ≡ from_be_bytes w32 (take 4 (drop k part.bytes)) = size_told (at_place part.bytes k) four in
+    let there : told (number_at w32 (at_place index at)) ≡ from_be_bytes w32 (take 4 (drop at index)) = size_told (at_place index at) (omega (arith, four, ap length stands, length-append (drop k part.bytes) is.after)) in
+    let zero_off : at - 0 ≡ at = omega arith in
+    rw (le-ltb at part.begin lies.0, le-ltb at 0 (omega arith), zero_off) (here ∙ ap (from_be_bytes w32) (sym (take-append-le 4 (drop k part.bytes) is.after four) ∙ ap (take 4) (sym stands)) ∙ sym there)

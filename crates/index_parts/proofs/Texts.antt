@@ -1,9 +1,9 @@
 -- Texts behind their length.
 use Rattle.std.proofs.Common.{◌≡◌, ℕ, ◌+◌, ◌≤◌, true, false, List, length, Ok, ap, arith}
 use Rattle.std.proofs.lemmas.List.{length-take}
-use Rattle.std.specs.Str.{IsAscii, IsUtf8, is_utf8}
+use Rattle.std.specs.Str.{IsUtf8, is_utf8}
 use Rattle.std.proofs.lemmas.Bool.{false_from_ne_true}
-use Rattle.std.proofs.lemmas.Str.{IsUtf8-from_ascii, IsUtf8-from_is_utf8, is_utf8-from_IsUtf8}
+use Rattle.std.proofs.lemmas.Str.{IsUtf8-from_is_utf8, is_utf8-from_IsUtf8}
 use Rattle.base.proofs.Binds.{bind_ok}
 use Rattle.wire_bytes.specs.Position.{Position, left}
 use Rattle.wire_bytes.specs.Fields.{bytes_at, uvarint_at}
@@ -23,10 +23,7 @@ text_within p q bytes e =
 pub is_text : (bytes : List ℕ) → IsUtf8 bytes → is_utf8 bytes ≡ true
 is_text _ is = is_utf8-from_IsUtf8 _ is
 
-pub is_ascii_text : (bytes : List ℕ) → IsAscii bytes → is_utf8 bytes ≡ true
-is_ascii_text _ is = is_text _ (IsUtf8-from_ascii _ is)
-
 pub is_no_text : (bytes : List ℕ) → (IsUtf8 bytes → ⊥) → is_utf8 bytes ≡ false
 is_no_text _ not = false_from_ne_true _ (λ e. not (IsUtf8-from_is_utf8 _ e))
 
-pub ruleset utf8_tests = (is_text, is_ascii_text, is_no_text, IsUtf8-from_ascii)
+pub ruleset utf8_tests = (is_text, is_no_text)

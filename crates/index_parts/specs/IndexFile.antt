@@ -1,5 +1,5 @@
 -- An index of version 2, apart from reading and writing: which bytes hold which series.
-use Rattle.std.specs.Prelude.{◌≡◌, ◌≢◌, ◌⊎◌, ℕ, ◌+◌, ◌*◌, ◌≤◌, ◌==◌, List, [], ◌∷◌, ◌++◌, length, map, take, slice_get, Some, MatchBool}
+use Rattle.std.specs.Prelude.{◌≡◌, ◌≢◌, ◌⊎◌, ℕ, ◌+◌, ◌*◌, ◌≤◌, ◌==◌, List, [], ◌∷◌, ◌++◌, length, map, take, slice_get, Option, Some, None, MatchBool}
 use Rattle.std.specs.declared.cmp.Ordering.{Ordering}
 use Rattle.std.specs.List.{Contains}
 use Rattle.std.specs.List.Sorted.{IsStrictlySortedBy}
@@ -7,12 +7,15 @@ use Rattle.label_sets.specs.declared.label.Label.{Label}
 use Rattle.label_sets.specs.Labels.{IsLabelSet, compare_sets, compare_texts}
 use Rattle.index_parts.specs.declared.postings_row.PostingsRow.{PostingsRow}
 use Rattle.index_parts.specs.Contents.{IsToc, contents_size}
+use Rattle.index_parts.specs.Framed.{IsEntry}
+use Rattle.index_parts.specs.Turns.{InOrder}
 use Rattle.index_parts.specs.Symbols.{IsSymbols}
 use Rattle.index_parts.specs.SeriesEntry.{IsSeries}
 use Rattle.index_parts.specs.Postings.{IsPostings}
 use Rattle.index_parts.specs.Rows.{IsPostingsTable}
 use Rattle.index_parts.specs.declared.index_series.IndexSeries.{IndexSeries}
 use Rattle.index_parts.specs.Opened.{Opened}
+use Rattle.index_parts.specs.Parts.{file, lists_size}
 
 -- ---- what an index begins and ends with, and its tables
 
@@ -67,6 +70,11 @@ pub record IsSeriesOf (index : List ℕ) (symbols : List (List ℕ)) (number : �
   pub values_are : StandFor symbols values (map (λ l. l.value) series.labels)
   pub lawful : IsLabelSet series.labels
 
+-- What the series of a number holds stands behind what that of another number holds, or it is the first.
+abbrev pub StandsBehind : List ℕ → Option ℕ → ℕ → Type 0
+StandsBehind index None number = Unit {0}
+StandsBehind index (Some before) number = (content : List ℕ) → IsEntry index (series_unit * before) content → series_unit * before + length content ≤ series_unit * number
+
 -- the order of series: by their labels
 abbrev pub compare_series : IndexSeries → IndexSeries → Ordering
 compare_series one other = compare_sets one.labels other.labels
@@ -95,13 +103,19 @@ HasRow rows label = (row : PostingsRow) × Contains rows row × (row.name ≡ la
 
 -- ---- the whole
 
--- The series that the table's first row lists by their numbers stand at these and ascend by their labels. An index with
--- series has symbols, series and postings lists.
+-- The series that the table's first row lists by their numbers stand at these, one behind the other, and ascend by their
+-- labels. An index with series has symbols, series and postings lists.
 pub record AreSeriesOf (opened : Opened) (listed : List (ℕ × IndexSeries)) : Type 0 where
   pub numbers_are : AreListed opened.bytes opened.rows (map (λ one. one.0) listed)
   pub present : (listed ≡ []) ⊎ ((opened.toc.symbols ≢ 0) × (opened.toc.series ≢ 0) × (opened.toc.postings ≢ 0))
   pub stand : (number : ℕ) (series : IndexSeries) → Contains listed (number, series) → IsSeriesOf opened.bytes opened.symbols number series
+  pub apart : InOrder (StandsBehind opened.bytes) (map (λ one. one.0) listed)
   pub ascend : IsStrictlySortedBy compare_series (map (λ one. one.1) listed)
+
+-- The lists of all rows, each as often as a row names it, have no more than eight bytes for each byte before the table. So
+-- their bytes can be read once for each row. Lists that have no bytes left over behind their numbers never come near it.
+abbrev pub AreFewLists : Opened → Type 0
+AreFewLists opened = lists_size (file opened.bytes) opened.rows ≤ 8 * opened.toc.postings_table
 
 -- The bytes are an index of these series. Each row of the table lists exactly its series, and each label of a series has its
 -- row.
@@ -114,6 +128,7 @@ pub record IsIndex (index : List ℕ) (list : List IndexSeries) : Type 0 where
   pub series_are : AreSeriesOf opened listed
   pub rows_are : (row : PostingsRow) → Contains opened.rows row → IsListOf opened.bytes listed row
   pub complete : (number : ℕ) (series : IndexSeries) → Contains listed (number, series) → (label : Label) → Contains series.labels label → HasRow opened.rows label
+  pub lists_few : AreFewLists opened
 
 -- In an index of a list, these are exactly the numbers of the listed series with a name and a value; two empty texts stand
 -- for all series.

@@ -1,5 +1,5 @@
 -- Parts of an index: bytes of it, by the place at which they begin.
-use Rattle.std.specs.Prelude.{◌≡◌, ℕ, zero, suc, Bool, false, ◌+◌, ◌-◌, ◌≤◌, List, ◌++◌, length, replicate, Result, Err, nat_le, if◌then◌else◌}
+use Rattle.std.specs.Prelude.{◌≡◌, ℕ, zero, suc, Bool, false, ◌+◌, ◌-◌, ◌≤◌, List, ◌++◌, length, replicate, sum_by, Result, Ok, Err, nat_le, nat_lt, if◌then◌else◌}
 use Rattle.std.specs.Result.{IsOkAnd}
 use Rattle.std.specs.Int.{w32}
 use Rattle.wire_bytes.specs.declared.varint.WireRefusal.{WireRefusal}
@@ -10,6 +10,7 @@ use Rattle.index_parts.specs.declared.refusal.PartRefusal.TheVariants.{Short}
 use Rattle.index_parts.specs.Placed.{at_place}
 use Rattle.index_parts.specs.PostingsReading.{postings_at}
 use Rattle.index_parts.specs.declared.part_sections.IndexPart.{IndexPart}
+use Rattle.index_parts.specs.declared.postings_row.PostingsRow.{PostingsRow}
 
 pub record Part : Type 0 where
   pub begin : ℕ
@@ -53,3 +54,18 @@ HoldsSection = LiesIn (number_at w32)
 
 abbrev pub HoldsSeries : Part → ℕ → Type 0
 HoldsSeries = LiesIn uvarint_at
+
+-- ---- how long lists are said to be
+
+-- the length that is read, and nothing where none is
+abbrev pub told : Result (ℕ × Position) WireRefusal → ℕ
+told (Ok size) = size.0
+told (Err e) = 0
+
+-- how many bytes the content of the postings list at a place is said to have, and nothing before the part
+abbrev pub list_size : Part → ℕ → ℕ
+list_size part at = if nat_lt at part.begin then 0 else told (number_at w32 (at_place part.bytes (at - part.begin)))
+
+-- of the lists of rows, each as often as a row names it
+abbrev pub lists_size : Part → List PostingsRow → ℕ
+lists_size part rows = sum_by (λ (row : PostingsRow). list_size part row.offset) rows

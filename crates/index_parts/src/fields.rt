@@ -1,3 +1,6 @@
+//! The fields of an index, as `wire_bytes` reads them, but each refusal with the place at which its field begins: that
+//! is what a caller is told of a damaged index.
+
 ghost use Rattle.std.specs.Prelude.{◌≡◌, ◌-◌, ◌*◌, ◌≤◌, ◌<◌, Ok, Err, MatchResult, length, true, false};
 ghost use Rattle.std.specs.Str.{is_utf8};
 ghost use Rattle.std.specs.Int.{w8, w32, w64};
@@ -98,7 +101,7 @@ pub(crate) fn next_text<'a>(cursor: &mut Cursor<'a>) -> Result<&'a [u8], PartRef
     next_bytes(cursor, size)
 }
 
-/// The bytes that end at a place, as a text. Most are ASCII throughout, which is told many bytes at a time.
+/// The bytes that end at a place, as a text.
 #[inline(always)]
 #[tactic(auto, using(crate::proofs::Texts::utf8_tests))]
 pub(crate) fn text_of(bytes: &[u8], end: usize) -> Result<&str, PartRefusal>
@@ -106,9 +109,6 @@ pub(crate) fn text_of(bytes: &[u8], end: usize) -> Result<&str, PartRefusal>
     ensures { MatchResult result (λ text. (is_utf8 bytes.now ≡ true) × (text.now ≡ bytes.now))
         (λ e. (is_utf8 bytes.now ≡ false) × (e ≡ PartRefusal.NotText (end - length bytes.now))) }
 {
-    if bytes.is_ascii() {
-        return Ok(unsafe { str::from_utf8_unchecked(bytes) });
-    }
     match str::from_utf8(bytes) {
         Ok(text) => Ok(text),
         Err(_) => Err(PartRefusal::NotText((end - bytes.len()) as u64)),

@@ -1,3 +1,6 @@
+//! One loop for all lists of an index: the symbols, the numbers of a postings list, the rows of the postings table. A
+//! member is told from the one before it, and no more room is made than the bytes that are left can fill.
+
 ghost use Rattle.std.specs.Prelude.{◌≡◌, ◌<◌, List, map};
 ghost use Rattle.base.specs.Reading.{Gives};
 ghost use Rattle.base.specs.Grammar.{IsBytes};

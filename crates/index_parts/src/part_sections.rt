@@ -1,3 +1,6 @@
+//! Tables and lists out of some of an index's bytes, as a gateway gets them by ranges. What is read there stands so in
+//! each index that has these bytes, and refusals count places of the whole index.
+
 ghost use Rattle.std.specs.Prelude.{◌≡◌, ◌⊎◌, ◌+◌, ◌*◌, ◌^◌, ◌<◌, ◌≤◌, ℕ, List, length, IfOk, Err};
 ghost use Rattle.base.specs.Reading.{Gives};
 ghost use Rattle.index_parts.specs.Symbols.{IsSymbols};

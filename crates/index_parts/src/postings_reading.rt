@@ -1,3 +1,6 @@
+//! Postings lists: the ascending numbers of the series that have one label. They are long, so all numbers of one are
+//! decoded at once, and read again one by one only where some do not ascend and the place has to be told.
+
 ghost use Rattle.std.specs.Prelude.{◌≡◌, ◌⊎◌, ◌≤◌, ◌*◌, List, ℕ, length, map, IfOk, IfErr, IfSome, Ok, Err, Some, MatchResult};
 ghost use Rattle.std.specs.Int.{w32, from_be_bytes};
 ghost use Rattle.std.specs.Ordering.{nat_cmp};

@@ -1,3 +1,6 @@
+//! The table that leads from a label to its postings list, with the list of all series in its first row (Prometheus:
+//! postings offset table). Rows mostly have the name of the row before them, which is then not tested anew.
+
 ghost use Rattle.std.specs.Prelude.{◌≡◌, ◌⊎◌, ◌≤◌, ◌-◌, ◌*◌, true, List, ℕ, length, map, slice_get, IfOk, Err, Ok, Some, MatchResult, option_map, if◌then◌else◌};
 ghost use Rattle.std.specs.Str.{is_utf8};
 ghost use Rattle.std.specs.Ordering.{is_lt};

@@ -1,4 +1,5 @@
 use crate::ChunkList;
+use base::{NoMemory, TryCopy};
 use wire_bytes::NumberList;
 
 /// A symbol number, and the place where it stands.
@@ -22,4 +23,14 @@ pub struct RawSeries {
     pub names: NumberList,
     pub values: NumberList,
     pub chunks: ChunkList,
+}
+
+impl TryCopy for RawSeries {
+    fn copy(&self) -> Result<Self, NoMemory> {
+        Ok(RawSeries {
+            names: self.names.copy()?,
+            values: self.values.copy()?,
+            chunks: self.chunks.copy()?,
+        })
+    }
 }

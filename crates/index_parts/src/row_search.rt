@@ -1,3 +1,6 @@
+//! How the postings table is asked: for a name and a value, or for where the rows of a name begin. The test of a whole
+//! index asks for neighbours one after another, so it hands in a guess at the place.
+
 ghost use Rattle.std.specs.Prelude.{◌≡◌, ◌<◌, ◌^◌, [], length, option_map, slice_get, IsTrue, IfOk, IfErr};
 ghost use Rattle.std.specs.List.Sorted.{IsStrictlySortedBy};
 ghost use Rattle.index_parts.specs.Rows.{compare_rows};

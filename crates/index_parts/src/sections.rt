@@ -1,3 +1,6 @@
+//! What all sections of an index have in common: a length, the content, and a sum, which is tested before any byte of
+//! the content is believed.
+
 ghost use Rattle.std.specs.Prelude.{◌≡◌, ◌≤◌, length};
 ghost use Rattle.base.specs.Reading.{Answers};
 ghost use Rattle.index_parts.specs.Placed.{at_place};

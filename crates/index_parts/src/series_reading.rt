@@ -1,7 +1,11 @@
+//! A series of an index as it stands: its labels by symbol numbers, and each chunk's times and place, told from those
+//! of the chunk before it. No symbol is looked up here, as a gateway has the symbols apart from the bytes of its
+//! series.
+
 ghost use Rattle.std.specs.Prelude.{◌≡◌, ◌⊎◌, ◌≤◌, ◌*◌, ◌+◌, ◌<◌, ◌^◌, List, ℕ, ℤ, length, IfOk, Ok, Err, Some, MatchResult};
 ghost use Rattle.base.specs.Reading.{Answers, Gives};
 ghost use Rattle.base.specs.Grammar.{IsBytes};
-ghost use Rattle.wire_bytes.specs.Position.{Position};
+ghost use Rattle.wire_bytes.specs.Position.{Position, left};
 ghost use Rattle.index_parts.specs.declared.raw_series.RawSeries.{RawSeries};
 ghost use Rattle.index_parts.specs.SeriesEntry.{IsSeries, reference_of, offset_count};
 ghost use Rattle.index_parts.specs.SeriesReading.{labels_begin_at, symbol_number_at, label_at, labels_at, later_at, moved_at, begin_at, reference_at, chunk_of, chunk_at, chunks_at, series_at};
@@ -185,8 +189,16 @@ fn chunks_of(
 /// Reads the chunks behind the labels of a series into the room of a list, of which nothing is kept but its memory: where it
 /// has room enough, none is taken. Where nothing is read the room is given up.
 #[inline(always)]
+pub fn chunks_behind(cursor: Cursor<'_>, room: ChunkList) -> Result<ChunkList, PartRefusal>
+    ensures exact { Gives PartRefusal.NoMemory (λ chunks. chunks) result (chunks_at cursor.entry) }
+    ensures few { IfOk result (λ chunks. 3 * length chunks ≤ length (left cursor.entry)) }
+{
+    counted_chunks(cursor, room)
+}
+
+#[inline(always)]
 #[tactic(auto, unfolding(crate::specs::SeriesReading::chunks_at))]
-pub fn chunks_behind(mut cursor: Cursor<'_>, room: ChunkList) -> Result<ChunkList, PartRefusal>
+fn counted_chunks(mut cursor: Cursor<'_>, room: ChunkList) -> Result<ChunkList, PartRefusal>
     ensures { Gives PartRefusal.NoMemory (λ chunks. chunks) result (chunks_at cursor.entry) }
 {
     let count = next_uvarint(&mut cursor)?;
@@ -201,7 +213,7 @@ fn series_of(alloc: Global, index: &[u8], at: u64) -> Result<RawSeries, PartRefu
 {
     let (count, labels) = before_labels(index, at)?;
     let (names, values, labels_end) = labels_of(alloc, count, labels)?;
-    let chunks = chunks_behind(labels_end, List::new(alloc))?;
+    let chunks = counted_chunks(labels_end, List::new(alloc))?;
     Ok(RawSeries {
         names: List::from_vec(names),
         values: List::from_vec(values),

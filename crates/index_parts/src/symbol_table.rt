@@ -1,3 +1,6 @@
+//! The texts of all labels of an index, each once and in order; series name them by number. They are lent from the
+//! index's bytes and never copied.
+
 ghost use Rattle.std.specs.Prelude.{◌≡◌, ◌⊎◌, ◌≤◌, List, ℕ, length, map, slice_get, IfOk, Ok, Err, Some, MatchResult};
 ghost use Rattle.std.specs.Result.{IsOkAnd};
 ghost use Rattle.std.specs.Option.{option_copied};

@@ -1,3 +1,6 @@
+//! The table of contents: where each section begins. It ends the index, so a gateway that knows from the meta how long
+//! the index is reads it first, and with it what to read next.
+
 ghost use Rattle.std.specs.Prelude.{◌≡◌, IfOk, Ok};
 ghost use Rattle.base.specs.Reading.{Answers};
 ghost use Rattle.base.specs.Grammar.{IsBytes};

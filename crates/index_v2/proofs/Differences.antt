@@ -22,7 +22,6 @@ use Rattle.base.proofs.Bools.{or_true, or_false}
 use Rattle.base.proofs.Rising.{rise_le, rise_less}
 use Rattle.index_parts.proofs.RowPlaces.{rows_total, stands_behind}
 use Rattle.index_parts.proofs.RowsBegin.{same_compare}
-use Rattle.index_v2.proofs.WholeLoops.{drop_at}
 
 -- ---- a number among others that ascend
 
@@ -83,39 +82,6 @@ has number (n ∷ list) (suc place) lt is = rw (has number list place (omega ari
 pub has_number_is : (number : ℕ) (list : List ℕ) (r : Result ℕ ℕ) (found : Bool) → IsStrictlyIncreasing list → IsBinarySearchResult (λ y. nat_cmp y number) list r → found ≡ is_ok r → found ≡ list_any (λ n. eqb n number) list
 has_number_is number list (Ok place) found rising is e = let a = tells_place list _ (Ok place) rising is in e ∙ sym (has number list place a.0 a.1)
 has_number_is number list (Err place) found rising is e = e ∙ sym (lacks number _ (tells_place _ number (Err place) rising is))
-
--- ---- the first stray
-
-pub record StraySoFar (rows : List PostingsRow) (lists : List (List ℕ)) (listed : List (ℕ × IndexSeries)) (place : ℕ) : Type 0 where
-  pub whole : stray_from 0 rows lists listed ≡ stray_from place (drop place rows) (drop place lists) listed
-
-list_at_front : (lists : List (List ℕ)) (place : ℕ) (list : List ℕ) → place < length lists → list ≡ get_or lists place list → drop place lists ≡ list ∷ drop (place + 1) lists
-list_at_front lists place _ lt e = rw add-one (drop-cons _ _ _ lt ∙ ap (λ x. x ∷ drop (suc place) lists) (sym e))
-
-stray_next : (place : ℕ) (row : PostingsRow) (rows : List PostingsRow) (list : List ℕ) (lists : List (List ℕ)) (listed : List (ℕ × IndexSeries)) → list_all (is_of_row listed row) list ≡ true → stray_from place (row ∷ rows) (list ∷ lists) listed ≡ stray_from (place + 1) rows lists listed
-unfolding stray_from
-stray_next _ _ _ _ _ _ e = rw e refl
-
-stray_here : (place : ℕ) (row : PostingsRow) (rows : List PostingsRow) (list : List ℕ) (lists : List (List ℕ)) (listed : List (ℕ × IndexSeries)) → list_all (is_of_row listed row) list ≡ false → stray_from place (row ∷ rows) (list ∷ lists) listed ≡ Some place
-unfolding stray_from
-stray_here _ _ _ _ _ _ e = rw e refl
-
-no_stray : (place : ℕ) (lists : List (List ℕ)) (listed : List (ℕ × IndexSeries)) → stray_from place [] lists listed ≡ None
-unfolding stray_from
-no_stray _ _ _ = refl
-
-pub stray_step : (rows : List PostingsRow) (lists : List (List ℕ)) (listed : List (ℕ × IndexSeries)) (place : ℕ) (row : PostingsRow) (seen list : List ℕ) (test : Bool) → StraySoFar rows lists listed place → length rows ≡ length lists → slice_get rows place ≡ Some row → list ≡ get_or lists place list → seen ≡ list → test ≡ list_all (is_of_row listed row) seen → test ≡ true → StraySoFar rows lists listed (place + 1)
-stray_step rows lists listed place row seen list test far many at here s e all_are =
-    let lt = slice_get_within _ place row at in
-    record { whole = far.whole ∙ rw (drop_at rows place row at, list_at_front lists place list (omega arith) here) (stray_next place row (drop (place + 1) rows) list (drop (place + 1) lists) listed (ap (list_all (is_of_row listed row)) (sym s) ∙ sym e ∙ all_are)) }
-
-pub stray_stop : (rows : List PostingsRow) (lists : List (List ℕ)) (listed : List (ℕ × IndexSeries)) (place : ℕ) (row : PostingsRow) (seen list : List ℕ) (test : Bool) → StraySoFar rows lists listed place → length rows ≡ length lists → slice_get rows place ≡ Some row → list ≡ get_or lists place list → seen ≡ list → test ≡ list_all (is_of_row listed row) seen → test ≡ false → Some place ≡ stray_from 0 rows lists listed
-stray_stop rows lists listed place row seen list test far many at here s e not_all =
-    let lt = slice_get_within rows _ _ at in
-    sym (far.whole ∙ rw (drop_at rows place row at, list_at_front lists place list (omega arith) here) (stray_here _ _ _ _ _ _ (ap (list_all (is_of_row listed row)) (sym s) ∙ sym e ∙ not_all)))
-
-pub stray_end : (rows : List PostingsRow) (lists : List (List ℕ)) (listed : List (ℕ × IndexSeries)) (place : ℕ) → StraySoFar rows lists listed place → length rows ≤ place → None ≡ stray_from 0 rows lists listed
-stray_end _ _ _ _ far le = sym (far.whole ∙ rw (drop_all) (no_stray _ _ _))
 
 -- ---- the gap of a label
 
@@ -213,6 +179,9 @@ gaps_end rows lists number _ _ least far le = sym (far.whole ∙ ap (λ xs. earl
 
 pub record GapSoFar (rows : List PostingsRow) (lists : List (List ℕ)) (numbers : List ℕ) (series : List IndexSeries) (place : ℕ) (least : Option ℕ) : Type 0 where
   pub whole : gap_among rows lists (zip numbers series) ≡ earlier_place least (gap_among rows lists (zip (drop place numbers) (drop place series)))
+
+pub gap_start : (rows : List PostingsRow) (lists : List (List ℕ)) (numbers : List ℕ) (series : List IndexSeries) → GapSoFar rows lists numbers series 0 None
+gap_start _ _ _ _ = record { whole = refl }
 
 gap_among_more : (rows : List PostingsRow) (lists : List (List ℕ)) (number : ℕ) (one : IndexSeries) (numbers : List ℕ) (series : List IndexSeries) → gap_among rows lists (zip (number ∷ numbers) (one ∷ series)) ≡ earlier_place (gap_of rows lists number one.labels) (gap_among rows lists (zip numbers series))
 unfolding gap_among

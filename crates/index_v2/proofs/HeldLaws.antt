@@ -1,5 +1,5 @@
 -- What a reader holds: of a whole file, and of parts.
-use Rattle.std.proofs.Common.{◌≡◌, ℕ, ◌*◌, List, [], ◌∷◌, length, replicate, Option, Some, None, Result, Ok, Err, refl, sym, ap, subst, ◌∙◌, arith, ◌⊎◌, inl, inr}
+use Rattle.std.proofs.Common.{◌≡◌, ℕ, ◌*◌, List, [], ◌∷◌, length, replicate, Option, Some, None, Result, Ok, Err, refl, sym, ap, ap₂, subst, ◌∙◌, arith, ◌⊎◌, inl, inr}
 use Rattle.std.proofs.lemmas.List.{append-nil, length-replicate}
 use Rattle.std.specs.Prelude.{IfOk, ◌==◌}
 use Rattle.std.specs.Result.{IsOkAnd}
@@ -36,11 +36,12 @@ use Rattle.index_v2.specs.declared.lent_parts.IndexParts.{IndexParts}
 use Rattle.index_v2.specs.Held.{Held, opened_in, opened_of, whole_file, IsWhole, IsHeldOf, AreSlicesOf, held_of}
 use Rattle.index_v2.specs.Opening.{refused_in, contents_at, held_at, opened_at}
 use Rattle.index_v2.specs.PostingsLists.{row_of, list_of, postings_of}
-use Rattle.index_v2.specs.WholeReading.{present_at, behind_at, all_at, lists_at, difference, unless_differ, whole_at}
+use Rattle.index_v2.specs.WholeReading.{present_at, behind_at, all_at, lists_at, few_at, difference, differing_at, unless_differ, whole_at}
 use Rattle.index_v2.proofs.PostingsLaws.{row_found}
 use Rattle.index_v2.proofs.SeriesSlices.{number_absent}
 use Rattle.index_v2.proofs.OpeningLaws.{opened_found, opened_again}
 use Rattle.index_v2.proofs.WholeLoops.{nothing_left}
+use Rattle.index_v2.proofs.ListsFew.{few_same}
 
 -- ---- of a whole file
 
@@ -126,9 +127,13 @@ lists_same here index is (row ∷ rows) lie =
     rw (list_of_index here index row.offset is (lie row (contains_first _ _)), lists_same here index is rows (λ one has. lie one (contains_later _ _ _ has))) refl
 
 -- where no series is to be read
-none_listed : (held : Held) → postings_of held [] [] ≡ Ok [] → whole_at held ≡ (lists_at held.lists held.rows >>= λ lists. unless_differ (difference held.rows lists []) >> Ok [])
+none_listed : (held : Held) → postings_of held [] [] ≡ Ok [] → whole_at held ≡ (few_at held.toc held.lists held.rows >> (differing_at held.lists held.rows [] >>= λ found. unless_differ found >> Ok []))
 unfolding whole_at present_at
 none_listed _ none = rw (none, nothing_left) refl
+
+differing_same : (here there : Part) (rows other : List PostingsRow) → lists_at here rows ≡ lists_at there other → rows ≡ other → differing_at here rows [] ≡ differing_at there other []
+unfolding differing_at
+differing_same here there rows other lists same = ap₂ (λ (r : Result (List (List ℕ)) IndexRefusal) (rs : List PostingsRow). r >>= λ lists. Ok (difference rs lists [])) lists same
 
 none_same : (held : Held) (opened : Opened) → IsHeldOf held opened → ((row : PostingsRow) → Contains held.rows row → HoldsSection held.lists row.offset) → postings_of held [] [] ≡ Ok [] → whole_at held ≡ whole_at (whole_file opened)
 none_same held opened is lie none =
@@ -136,8 +141,7 @@ none_same held opened is lie none =
     let there = ap (λ rows. list_of (file opened.bytes) (row_of rows [] [])) (sym is.rows_are) ∙ sym first ∙ none in
     let lists = lists_same _ _ is.lists_are _ lie ∙ ap (lists_at (file opened.bytes)) is.rows_are in
     none_listed _ none
-    ∙ ap (λ r. r >>= λ lists. unless_differ (difference held.rows lists []) >> Ok []) lists
-    ∙ ap (λ rows. lists_at (file opened.bytes) opened.rows >>= λ lists. unless_differ (difference rows lists []) >> Ok []) is.rows_are
+    ∙ ap₂ (λ (t : Result (Unit {0}) IndexRefusal) (r : Result (Option ℕ) IndexRefusal). t >> (r >>= λ found. unless_differ found >> Ok [])) (few_same held.lists opened.bytes held.rows opened.rows held.toc opened.toc is.lists_are lie is.rows_are is.toc_is) (differing_same held.lists (file opened.bytes) held.rows opened.rows lists is.rows_are)
     ∙ sym (none_listed _ there)
 
 -- where the first list is refused, or a section that its series need is absent
@@ -167,17 +171,17 @@ whole_same held opened is lie unread =
     (λ d absent. section_absent held (n ∷ ns) d e absent ∙ sym (section_absent _ _ d (sym first ∙ e) (ap (λ toc. present_at toc (n ∷ ns)) (sym is.toc_is) ∙ absent))))
     (λ d e. listed_refused held d e ∙ sym (listed_refused _ d (sym first ∙ e)))
 
-all_absent : (symbols : List (List ℕ)) (number : ℕ) (numbers : List ℕ) → all_at [] symbols None (number ∷ numbers) ≡ Err (BadSeries number (part.Short (16 * number)))
+all_absent : (symbols : List (List ℕ)) (number : ℕ) (numbers : List ℕ) → all_at [] symbols None None (number ∷ numbers) ≡ Err (BadSeries number (part.Short (16 * number)))
 unfolding all_at behind_at
 all_absent _ _ _ = rw (number_absent) refl
 
-first_absent : (held : Held) (number : ℕ) (numbers : List ℕ) → postings_of held [] [] ≡ Ok (number ∷ numbers) → present_at held.toc (number ∷ numbers) ≡ Ok tt → all_at held.bytes held.symbols None (number ∷ numbers) ≡ Err (BadSeries number (part.Short (16 * number))) → whole_at held ≡ Err (BadSeries number (part.Short (16 * number)))
+first_absent : (held : Held) (number : ℕ) (numbers : List ℕ) → postings_of held [] [] ≡ Ok (number ∷ numbers) → present_at held.toc (number ∷ numbers) ≡ Ok tt → all_at held.bytes held.symbols None None (number ∷ numbers) ≡ Err (BadSeries number (part.Short (16 * number))) → whole_at held ≡ Err (BadSeries number (part.Short (16 * number)))
 unfolding whole_at
 first_absent _ _ _ listed present e = rw (listed, present, e) refl
 
 -- where one is to be read, and none is there
 pub whole_absent : (held : Held) (number : ℕ) (numbers : List ℕ) → held.bytes ≡ [] → postings_of held [] [] ≡ Ok (number ∷ numbers) → present_at held.toc (number ∷ numbers) ≡ Ok tt → whole_at held ≡ Err (BadSeries number (part.Short (16 * number)))
-whole_absent held number numbers none listed present = first_absent _ _ _ listed present (ap (λ bytes. all_at bytes held.symbols None (number ∷ numbers)) none ∙ all_absent _ _ _)
+whole_absent held number numbers none listed present = first_absent _ _ _ listed present (ap (λ bytes. all_at bytes held.symbols None None (number ∷ numbers)) none ∙ all_absent _ _ _)
 
 -- what is read for a row is what the index has for it
 pub found_of_row : (r : Result (List ℕ) IndexRefusal) (index : List ℕ) (rows : List PostingsRow) (name value : List ℕ) (row : PostingsRow) → row_of rows name value ≡ Some row → IfOk r (λ numbers. IsPostings index row.offset numbers) → IfOk r (λ numbers. list_of (file index) (row_of rows name value) ≡ Ok numbers)

@@ -1,5 +1,5 @@
 -- A series with its labels, read part by part.
-use Rattle.std.proofs.Common.{◌≡◌, ℕ, List, [], ◌∷◌, Result, Ok, Err, refl, sym, ap, subst, ◌∙◌, ◌⊎◌, inl, inr}
+use Rattle.std.proofs.Common.{◌≡◌, ℕ, List, [], Result, Ok, Err, refl, ap, subst, ◌∙◌, ◌⊎◌, inl, inr}
 use Rattle.base.specs.Reading.{◌>>=◌}
 use Rattle.base.specs.Members.{members_at}
 use Rattle.base.proofs.Binds.{bind_ok, ok_is}

@@ -1,14 +1,12 @@
 -- Labels of a set, added one after another.
-use Rattle.std.proofs.Common.{◌≡◌, ◌≢◌, ℕ, suc, ◌+◌, ◌<◌, ◌≤◌, false, List, [], ◌∷◌, ◌++◌, length, drop, get_or, take, map, None, Result, Ok, Err, refl, sym, ap, ◌∙◌, subst, arith, add-one, drop-cons}
-use Rattle.std.specs.Prelude.{◌==◌, is_err}
+use Rattle.std.proofs.Common.{◌≡◌, ◌≢◌, ℕ, suc, ◌+◌, ◌<◌, ◌≤◌, false, List, [], ◌∷◌, ◌++◌, length, drop, get_or, take, map, None, Ok, refl, sym, ap, ◌∙◌, subst, arith, add-one, drop-cons}
+use Rattle.std.specs.Prelude.{◌==◌, IsOk}
 use Rattle.std.proofs.lemmas.Bool.{ne_eqb}
 use Rattle.std.proofs.lemmas.List.{map_more, map-append, take_all, take-append-drop}
 use Rattle.base.proofs.Bools.{is_lt-from_Less}
-use Rattle.base.specs.Reading.{Gives}
 use Rattle.base.proofs.Binds.{ok_is}
 use Rattle.label_sets.specs.declared.label.Label.{Label}
 use Rattle.label_sets.specs.declared.label_refusal.LabelRefusal.{LabelRefusal}
-use Rattle.label_sets.specs.declared.label_refusal.LabelRefusal.TheVariants.{NoMemory}
 use Rattle.label_sets.specs.Ordered.{placed}
 use Rattle.label_sets.specs.Labels.{compare_texts, ComesBefore, IsLabelSet, value_of, has_lesser_name, added}
 use Rattle.label_sets.proofs.LabelValues.{before_differs, value_miss, value_nil, stands_before_member}
@@ -46,27 +44,28 @@ inside (m ∷ front) l after is =
     record { behind = (stands_before_member m.name front l after is.2, others.behind); named = others.named; valued = others.valued }
 
 -- the next label of a set is added behind those before it
-added_next : (front : List Label) (l : Label) (after new : List Label) → IsLabelSet (front ++ l ∷ after) → added front l.name l.value ≡ Ok new → new ≡ front ++ l ∷ []
+added_next : (front : List Label) (l : Label) (after : List Label) → IsLabelSet (front ++ l ∷ after) → added front l.name l.value ≡ Ok (front ++ l ∷ [])
 unfolding added
-added_next front l _ _ is e =
+added_next front l _ is =
     let i = inside _ l _ is in
-    let whole : added front l.name l.value ≡ Ok (front ++ l ∷ []) = rw (some_bytes l.name i.named, some_bytes l.value i.valued, no_value front l.name i.behind, placed_last front l i.behind) refl in
-    ok_is {E = LabelRefusal} _ _ (sym e ∙ whole)
-
-gives_ok : {X Y E : Type 0} (no_memory : E) (new : Y) (r : Result X E) (read : Result Y E) → is_err r ≡ false → Gives no_memory (λ _. new) r read → read ≡ Ok new
-gives_ok _ _ (Ok x) _ e g = g
-gives_ok _ _ (Err d) _ e g = absurd cc
+    rw (some_bytes l.name i.named, some_bytes l.value i.valued, no_value front l.name i.behind, placed_last front l i.behind) refl
 
 split_at : (labels : List LentLabel) (i : ℕ) (d : LentLabel) → i < length labels → map as_label labels ≡ map as_label (take i labels) ++ as_label (get_or labels i d) ∷ map as_label (drop (i + 1) labels)
 split_at labels i d lt = ap (map as_label) (sym (take-append-drop i labels) ∙ ap (λ (xs : List LentLabel). take i labels ++ xs) (rw add-one (drop-cons labels i d lt))) ∙ map-append as_label (take i labels) (get_or labels i d ∷ drop (i + 1) labels)
 
-pub copied_step : (labels : List LentLabel) (place next : ℕ) (d label : LentLabel) (old new : List Label) (r : Result (Unit {0}) LabelRefusal) → IsLabelSet (map as_label labels) → old ≡ map as_label (take place labels) → place < length labels → next ≡ place + 1 → label ≡ get_or labels place d
-    → is_err r ≡ false → Gives NoMemory (λ _. new) r (added old label.name.now label.value.now) → new ≡ map as_label (take next labels)
-copied_step labels place _ d label _ _ r is far lt n at ok gives =
-    let read = ap (λ o. added o label.name.now label.value.now) (sym far) ∙ gives_ok _ _ r _ ok gives in
-    let lawful = subst IsLabelSet (split_at _ _ d lt ∙ ap (λ l. map as_label (take place labels) ++ as_label l ∷ map as_label (drop (place + 1) labels)) (sym at)) is in
-    added_next _ _ _ _ lawful read
-    ∙ ap (λ l. map as_label (take place labels) ++ as_label l ∷ []) at ∙ sym (map_more as_label _ _ d lt) ∙ ap (λ m. map as_label (take m labels)) (sym n)
+module _ (labels : List LentLabel) (place : ℕ) (d label : LentLabel) (old : List Label) (is : IsLabelSet (map as_label labels)) (far : old ≡ map as_label (take place labels)) (lt : place < length labels) (at : label ≡ get_or labels place d) where
+  added_here : added old label.name.now label.value.now ≡ Ok (map as_label (take place labels) ++ as_label label ∷ [])
+  added_here =
+      let lawful = subst IsLabelSet (split_at _ _ d lt ∙ ap (λ l. map as_label (take place labels) ++ as_label l ∷ map as_label (drop (place + 1) labels)) (sym at)) is in
+      ap (λ o. added o label.name.now label.value.now) far ∙ added_next (map as_label (take place labels)) (as_label label) (map as_label (drop (place + 1) labels)) lawful
+
+  pub has_room : IsOk (added old label.name.now label.value.now)
+  has_room = subst IsOk (sym added_here) refl
+
+  pub copied_step : (next : ℕ) (new : List Label) → next ≡ place + 1 → added old label.name.now label.value.now ≡ Ok new → new ≡ map as_label (take next labels)
+  copied_step next new n adds =
+      ok_is {E = LabelRefusal} _ _ (sym adds ∙ added_here)
+      ∙ ap (λ l. map as_label (take place labels) ++ as_label l ∷ []) at ∙ sym (map_more as_label _ _ d lt) ∙ ap (λ m. map as_label (take m labels)) (sym n)
 
 pub copied_end : (labels : List LentLabel) (place : ℕ) (set : List Label) → set ≡ map as_label (take place labels) → length labels ≤ place → set ≡ map as_label labels
 copied_end labels place _ far le = far ∙ ap (map as_label) (take_all place labels le)

@@ -3,8 +3,9 @@ pub mod LabelReading
 pub mod RowsFound
 pub mod ValuesListed
 pub mod WholeLoops
-pub mod Spending
 pub mod Differences
+pub mod KeptLists
+pub mod ListsFew
 pub mod LentOrder
 pub mod ListNumbers
 pub mod OpeningLaws
@@ -19,6 +20,7 @@ pub mod LabelledSeries
 pub mod Unplaced
 pub mod LabelsOwned
 pub mod WholeParts
+pub mod SeriesApart
 pub mod WholeLaws
 pub mod WholeRead
 pub mod WholeGives
@@ -27,3 +29,11 @@ pub mod Faults
 pub mod PostingsLaws
 pub mod FewLaws
 pub mod ValuesAgree
+pub mod SymbolRanks
+pub mod RankPlaces
+pub mod LabelRanks
+pub mod RowRanks
+pub mod NameOrder
+pub mod RankedGaps
+pub mod SymbolsAre
+pub mod RankedSeries

@@ -1,5 +1,5 @@
 -- What reading a whole index takes from its bytes, against the grammar.
-use Rattle.std.proofs.Common.{◌≡◌, ◌≢◌, ℕ, zero, suc, true, cond, eqb, List, [], ◌∷◌, length, map, zip, Option, Some, None, Result, Ok, refl, sym, ap, subst, ◌∙◌, arith, ◌⊎◌, inl, inr}
+use Rattle.std.proofs.Common.{◌≡◌, ◌*◌, ◌≢◌, ℕ, zero, suc, true, cond, eqb, List, [], ◌∷◌, length, map, zip, Option, Some, None, Result, Ok, refl, sym, ap, subst, ◌∙◌, arith, ◌⊎◌, inl, inr}
 use Rattle.std.specs.Prelude.{slice_get, ◌&&◌, ◌==◌, nat_lt}
 use Rattle.std.specs.List.{list_any, list_all, Contains}
 use Rattle.std.specs.List.Sorted.{IsStrictlySortedBy}
@@ -11,7 +11,7 @@ use Rattle.std.proofs.lemmas.Option.{same_Some}
 use Rattle.std.proofs.lemmas.Cmp.{tied_itself, tied_back}
 use Rattle.std.proofs.lemmas.List.{nil_from_length}
 use Rattle.base.proofs.Lists.{zip_firsts, zip_seconds, zip_parts}
-use Rattle.base.proofs.Membership.{all_at_member, any_of_member, contains_place, member_of_any, place_of_member}
+use Rattle.base.proofs.Membership.{all_at_member, any_of_member, contains_place, member_of_any, of_map, place_of_member}
 use Rattle.base.proofs.Order.{Less-at_places}
 use Rattle.base.proofs.Bools.{bytes_eq-itself}
 use Rattle.base.specs.Reading.{refused_as}
@@ -31,17 +31,21 @@ use Rattle.index_parts.proofs.ListLaws.{list_found, list_again}
 use Rattle.index_parts.proofs.PostingsLaws.{posting_turn}
 use Rattle.index_parts.specs.declared.index_series.IndexSeries.{IndexSeries}
 use Rattle.index_parts.specs.Opened.{Opened}
-use Rattle.index_parts.specs.IndexFile.{compare_series, BelongsTo, IsListOf, AreListed, Holds, IsOpened, AreSeriesOf}
+use Rattle.index_parts.specs.Framed.{IsEntry}
+use Rattle.index_parts.specs.Turns.{InOrder}
+use Rattle.index_parts.specs.IndexFile.{StandsBehind, compare_series, BelongsTo, IsListOf, AreListed, Holds, IsOpened, AreSeriesOf, AreFewLists}
 use Rattle.index_v2.specs.declared.refusal.IndexRefusal.{IndexRefusal}
 use Rattle.index_v2.specs.Opening.{refused_in}
 use Rattle.index_parts.specs.Parts.{file}
 use Rattle.index_v2.specs.Held.{whole_file}
 use Rattle.index_v2.specs.PostingsLists.{row_of, list_of, postings_of}
-use Rattle.index_v2.specs.WholeReading.{present_at, all_at, lists_at, belongs, has_value, is_of_row}
+use Rattle.index_v2.specs.WholeReading.{present_at, all_at, lists_at, few_at, belongs, has_value, is_of_row}
 use Rattle.index_parts.proofs.RowPlaces.{rows_total}
 use Rattle.index_v2.proofs.RowsHeld.{held_ascends}
 use Rattle.index_parts.proofs.RowsBegin.{same_compare}
 use Rattle.index_v2.proofs.LabelLaws.{numbered_found, numbered_again}
+use Rattle.index_v2.proofs.SeriesApart.{apart_found, apart_again}
+use Rattle.index_v2.proofs.ListsFew.{few_again}
 use Rattle.index_v2.proofs.WholeParts.{AreLists, all_found, all_again, lists_found, lists_again}
 
 -- ---- which row a series belongs to
@@ -260,22 +264,24 @@ present_then _ _ (inr are) = inr are
 pub record HasRead (opened : Opened) (numbers : List ℕ) (list : List IndexSeries) (lists : List (List ℕ)) : Type 0 where
   pub listed : postings_of (whole_file opened) [] [] ≡ Ok numbers
   pub present : present_at opened.toc numbers ≡ Ok tt
-  pub series : all_at opened.bytes opened.symbols None numbers ≡ Ok list
+  pub series : all_at opened.bytes opened.symbols None None numbers ≡ Ok list
+  pub few : few_at opened.toc (file opened.bytes) opened.rows ≡ Ok tt
   pub read : lists_at (file opened.bytes) opened.rows ≡ Ok lists
 
 module _ (opened : Opened) (numbers : List ℕ) (list : List IndexSeries) (lists : List (List ℕ)) (are : IsBytes opened.bytes) (is : IsOpened opened) (has : HasRead opened numbers list lists) where
   pub series_known : AreSeriesOf opened (zip numbers list)
   series_known =
-      let series = all_found opened.bytes opened.symbols None numbers list has.series in
+      let series = all_found opened.bytes opened.symbols None None numbers list has.series in
       record {
         numbers_are = subst (AreListed opened.bytes opened.rows) (sym (zip_firsts numbers list series.many)) (numbers_found opened.bytes opened.toc.postings_table opened.rows numbers are is.rows_are has.listed);
         present = nothing_or opened.toc numbers list (present_found opened.toc numbers tt has.present);
         stand = λ number one h. numbered_found opened.bytes opened.symbols number one are (series.each number one h);
+        apart = subst (λ (ns : List ℕ). InOrder (StandsBehind opened.bytes) ns) (sym (zip_firsts numbers list series.many)) (apart_found opened.bytes None numbers series.apart);
         ascend = subst (IsStrictlySortedBy compare_series) (sym (zip_seconds numbers list series.many)) series.ascend;
       }
 
   pub as_listed : map (λ (one : ℕ × IndexSeries). one.1) (zip numbers list) ≡ list
-  as_listed = zip_seconds _ _ (all_found _ _ _ _ _ has.series).many
+  as_listed = zip_seconds _ _ (all_found _ _ _ _ _ _ has.series).many
 
   pub are_taken : AreTaken opened.bytes opened.rows lists (zip numbers list) numbers
   are_taken = record {
@@ -287,10 +293,17 @@ module _ (opened : Opened) (numbers : List ℕ) (list : List IndexSeries) (lists
     lawful = λ number one h. (series_known.stand number one h).lawful;
   }
 
+-- a listed number has the content of its series
+entry_of : (opened : Opened) (listed : List (ℕ × IndexSeries)) → AreSeriesOf opened listed → (n : ℕ) → Contains (map (λ (one : ℕ × IndexSeries). one.0) listed) n → (content : List ℕ) × IsEntry opened.bytes (16 * n) content
+entry_of opened listed known n has =
+    let one = of_map (λ (one : ℕ × IndexSeries). one.0) listed n has in
+    let is = known.stand one.0.0 one.0.1 one.1 in
+    (is.stands.content, subst (λ (m : ℕ). IsEntry opened.bytes (16 * m) is.stands.content) one.2 is.stands.entry)
+
 -- such series are read, where each row has a list
-pub read_again : (opened : Opened) (listed : List (ℕ × IndexSeries)) → IsOpened opened → AreSeriesOf opened listed → ((row : PostingsRow) → Contains opened.rows row → (numbers : List ℕ) × IsPostings opened.bytes row.offset numbers)
+pub read_again : (opened : Opened) (listed : List (ℕ × IndexSeries)) → IsOpened opened → AreSeriesOf opened listed → AreFewLists opened → ((row : PostingsRow) → Contains opened.rows row → (numbers : List ℕ) × IsPostings opened.bytes row.offset numbers)
     → (lists : List (List ℕ)) × HasRead opened (map (λ (one : ℕ × IndexSeries). one.0) listed) (map (λ (one : ℕ × IndexSeries). one.1) listed) lists
-read_again opened listed is known stand =
+read_again opened listed is known few stand =
     let numbers = map (λ (one : ℕ × IndexSeries). one.0) listed in
     let list = map (λ (one : ℕ × IndexSeries). one.1) listed in
     let lists = lists_again _ _ (λ row has. let one = stand row has in (one.0, list_again IsNextPosting posting_at posting_turn _ _ _ one.1)) in (
@@ -298,12 +311,14 @@ read_again opened listed is known stand =
       record {
         listed = numbers_again opened.bytes opened.toc.postings_table opened.rows numbers is.rows_are known.numbers_are;
         present = present_again opened.toc numbers (present_then opened.toc listed known.present);
-        series = all_again opened.bytes opened.symbols None numbers list (record {
+        series = all_again opened.bytes opened.symbols None None numbers list (record {
           many = length-map listed (λ (one : ℕ × IndexSeries). one.0) ∙ sym (length-map listed (λ (one : ℕ × IndexSeries). one.1));
           each = λ number one has. numbered_again opened.bytes opened.symbols number one (known.stand number one (subst (λ (ps : List (ℕ × IndexSeries)). Contains ps (number, one)) (zip_parts listed) has));
+          apart = apart_again opened.bytes None numbers tt (λ n has. entry_of opened listed known n has) known.apart;
           behind = tt;
           ascend = known.ascend;
         });
+        few = few_again opened few;
         read = lists.1;
       },
     )

@@ -1,6 +1,6 @@
 -- The loops over listed series and over rows: what was read of the front, and what is left, is the whole.
-use Rattle.std.proofs.Common.{◌≡◌, ℕ, zero, suc, ◌+◌, ◌-◌, ◌<◌, ◌≤◌, List, [], ◌∷◌, ◌++◌, length, take, drop, get_or, Option, Some, None, Result, Ok, Err, refl, sym, ap, ◌∙◌, arith, add-one, drop-cons, ◌⊎◌, inl, inr}
-use Rattle.std.specs.Prelude.{slice_get, IsErrAnd}
+use Rattle.std.proofs.Common.{◌≡◌, ℕ, zero, suc, ◌+◌, ◌-◌, ◌^◌, ◌<◌, ◌≤◌, List, [], ◌∷◌, ◌++◌, length, take, drop, get_or, Option, Some, None, Result, Ok, Err, refl, sym, ap, subst, ◌∙◌, arith, add-one, drop-cons, ◌⊎◌, inl, inr}
+use Rattle.std.specs.Prelude.{slice_get, IfSome, IsErrAnd, MatchResult}
 use Rattle.std.specs.List.{All}
 use Rattle.std.specs.List.Sorted.{IsStrictlyIncreasing}
 use Rattle.std.proofs.lemmas.List.Elements.{All-push}
@@ -20,12 +20,16 @@ use Rattle.index_v2.proofs.LabelReading.{again, moved}
 abbrev pub last_of : List IndexSeries → Option IndexSeries
 last_of made = slice_get made (length made - 1)
 
-pub record SeriesSoFar (index : List ℕ) (symbols : List (List ℕ)) (numbers : List ℕ) (place : ℕ) (made : List IndexSeries) : Type 0 where
+pub record SeriesSoFar (index : List ℕ) (symbols : List (List ℕ)) (numbers : List ℕ) (place : ℕ) (last : Option ℕ) (made : List IndexSeries) : Type 0 where
   pub many : length made ≡ place
-  pub whole : all_at index symbols None numbers ≡ (all_at index symbols (last_of made) (drop place numbers) >>= λ others. Ok (made ++ others))
+  pub small : IfSome last (λ n. n < 2 ^ 32)
+  pub whole : all_at index symbols None None numbers ≡ (all_at index symbols last (last_of made) (drop place numbers) >>= λ others. Ok (made ++ others))
 
-pub series_start : (index : List ℕ) (symbols : List (List ℕ)) (numbers : List ℕ) → SeriesSoFar index symbols numbers 0 []
-series_start _ _ _ = record { many = refl; whole = again _ }
+pub series_start : (index : List ℕ) (symbols : List (List ℕ)) (numbers : List ℕ) → SeriesSoFar index symbols numbers 0 None []
+series_start _ _ _ = record { many = refl; small = tt; whole = again _ }
+
+pub series_begin : (index : List ℕ) (symbols : List (List ℕ)) (numbers : List ℕ) (made : List IndexSeries) → made ≡ [] → SeriesSoFar index symbols numbers 0 None made
+series_begin index symbols numbers made none = subst (SeriesSoFar index symbols numbers 0 None) (sym none) (series_start index symbols numbers)
 
 slice_get_last : (made : List IndexSeries) (one : IndexSeries) (n : ℕ) → n ≡ length made → slice_get (made ++ one ∷ []) n ≡ Some one
 slice_get_last [] _ zero e = refl
@@ -36,43 +40,44 @@ slice_get_last (m ∷ made) one (suc n) e = slice_get_last made _ n (omega arith
 last_pushed : (made : List IndexSeries) (one : IndexSeries) → last_of (made ++ one ∷ []) ≡ Some one
 last_pushed made one = slice_get_last _ _ (length (made ++ one ∷ []) - 1) (omega (arith, length-append made (one ∷ [])))
 
-at_front : (xs : List ℕ) (i x : ℕ) → i < length xs → x ≡ get_or xs i 0 → drop i xs ≡ x ∷ drop (i + 1) xs
+pub at_front : (xs : List ℕ) (i x : ℕ) → i < length xs → x ≡ get_or xs i 0 → drop i xs ≡ x ∷ drop (i + 1) xs
 at_front _ i x lt e = rw (add-one, e) (drop-cons _ i 0 lt)
 
-one_more : (index : List ℕ) (symbols : List (List ℕ)) (before : Option IndexSeries) (number : ℕ) (numbers : List ℕ) (one : IndexSeries) → behind_at index symbols before number ≡ Ok one → all_at index symbols before (number ∷ numbers) ≡ (all_at index symbols (Some one) numbers >>= λ others. Ok (one ∷ others))
+one_more : (index : List ℕ) (symbols : List (List ℕ)) (last : Option ℕ) (before : Option IndexSeries) (number : ℕ) (numbers : List ℕ) (one : IndexSeries) → behind_at index symbols last before number ≡ Ok one → all_at index symbols last before (number ∷ numbers) ≡ (all_at index symbols (Some number) (Some one) numbers >>= λ others. Ok (one ∷ others))
 unfolding all_at
-one_more _ _ _ _ _ _ e = rw e refl
+one_more _ _ _ _ _ _ _ e = rw e refl
 
-none_more : (index : List ℕ) (symbols : List (List ℕ)) (before : Option IndexSeries) (number : ℕ) (numbers : List ℕ) (refusal : IndexRefusal) → behind_at index symbols before number ≡ Err refusal → all_at index symbols before (number ∷ numbers) ≡ Err refusal
+none_more : (index : List ℕ) (symbols : List (List ℕ)) (last : Option ℕ) (before : Option IndexSeries) (number : ℕ) (numbers : List ℕ) (refusal : IndexRefusal) → behind_at index symbols last before number ≡ Err refusal → all_at index symbols last before (number ∷ numbers) ≡ Err refusal
 unfolding all_at
-none_more _ _ _ _ _ _ e = rw e refl
+none_more _ _ _ _ _ _ _ e = rw e refl
 
-pub nothing_left : (index : List ℕ) (symbols : List (List ℕ)) (before : Option IndexSeries) → all_at index symbols before [] ≡ Ok []
+pub nothing_left : (index : List ℕ) (symbols : List (List ℕ)) (last : Option ℕ) (before : Option IndexSeries) → all_at index symbols last before [] ≡ Ok []
 unfolding all_at
-nothing_left _ _ _ = refl
+nothing_left _ _ _ _ = refl
 
-pub series_step : (index : List ℕ) (symbols : List (List ℕ)) (numbers : List ℕ) (place next number : ℕ) (made seen new : List IndexSeries) (one : IndexSeries)
-    → SeriesSoFar index symbols numbers place made → place < length numbers → next ≡ place + 1 → number ≡ get_or numbers place 0 → seen ≡ made → behind_at index symbols (last_of seen) number ≡ Ok one → new ≡ made ++ one ∷ [] → SeriesSoFar index symbols numbers next new
-series_step index symbols numbers place _ number made _ _ one far lt e n s behind pushed =
-    let read = ap (λ xs. behind_at index symbols (last_of xs) number) (sym s) ∙ behind in
-    let front : all_at index symbols (last_of made) (drop place numbers) ≡ (all_at index symbols (Some one) (drop (place + 1) numbers) >>= λ others. Ok (one ∷ others)) = rw (at_front numbers place number lt n) (one_more _ _ _ _ _ _ read) in
-    let last = ap (λ o. all_at index symbols o (drop (place + 1) numbers)) (last_pushed made _) in
+pub series_step : (index : List ℕ) (symbols : List (List ℕ)) (numbers : List ℕ) (place next number : ℕ) (last : Option ℕ) (made seen new : List IndexSeries) (one : IndexSeries)
+    → SeriesSoFar index symbols numbers place last made → place < length numbers → next ≡ place + 1 → number ≡ get_or numbers place 0 → number < 2 ^ 32 → seen ≡ made → behind_at index symbols last (last_of seen) number ≡ Ok one → new ≡ made ++ one ∷ [] → SeriesSoFar index symbols numbers next (Some number) new
+series_step index symbols numbers place _ number last made _ _ one far lt e n small s behind pushed =
+    let read = ap (λ xs. behind_at index symbols last (last_of xs) number) (sym s) ∙ behind in
+    let front : all_at index symbols last (last_of made) (drop place numbers) ≡ (all_at index symbols (Some number) (Some one) (drop (place + 1) numbers) >>= λ others. Ok (one ∷ others)) = rw (at_front numbers place number lt n) (one_more _ _ _ _ _ _ _ read) in
+    let end = ap (λ o. all_at index symbols (Some number) o (drop (place + 1) numbers)) (last_pushed made _) in
     rw (e, pushed) (record {
       many = let m = far.many in omega (arith, length-append made (one ∷ []));
+      small = small;
       whole = far.whole ∙ ap (λ (r : Result (List IndexSeries) IndexRefusal). r >>= λ others. Ok (made ++ others)) front ∙ moved _ _ _
-          ∙ ap (λ r. r >>= λ others. Ok ((made ++ one ∷ []) ++ others)) (sym last);
+          ∙ ap (λ r. r >>= λ others. Ok ((made ++ one ∷ []) ++ others)) (sym end);
     })
 
-pub series_stop : (index : List ℕ) (symbols : List (List ℕ)) (numbers : List ℕ) (place number : ℕ) (made seen : List IndexSeries) (refusal : IndexRefusal)
-    → SeriesSoFar index symbols numbers place made → place < length numbers → number ≡ get_or numbers place 0 → seen ≡ made → behind_at index symbols (last_of seen) number ≡ Err refusal → all_at index symbols None numbers ≡ Err refusal
-series_stop index symbols numbers place number made _ refusal far lt n s behind =
-    let read = ap (λ xs. behind_at index symbols (last_of xs) number) (sym s) ∙ behind in
-    let front : all_at index symbols (last_of made) (drop place numbers) ≡ Err refusal = rw (at_front numbers place number lt n) (none_more _ _ _ _ _ _ read) in
+pub series_stop : (index : List ℕ) (symbols : List (List ℕ)) (numbers : List ℕ) (place number : ℕ) (last : Option ℕ) (made seen : List IndexSeries) (refusal : IndexRefusal)
+    → SeriesSoFar index symbols numbers place last made → place < length numbers → number ≡ get_or numbers place 0 → seen ≡ made → behind_at index symbols last (last_of seen) number ≡ Err refusal → all_at index symbols None None numbers ≡ Err refusal
+series_stop index symbols numbers place number last made _ refusal far lt n s behind =
+    let read = ap (λ xs. behind_at index symbols last (last_of xs) number) (sym s) ∙ behind in
+    let front : all_at index symbols last (last_of made) (drop place numbers) ≡ Err refusal = rw (at_front numbers place number lt n) (none_more _ _ _ _ _ _ _ read) in
     far.whole ∙ ap (λ r. r >>= λ others. Ok (made ++ others)) front
 
-pub series_end : (index : List ℕ) (symbols : List (List ℕ)) (numbers : List ℕ) (place : ℕ) (made : List IndexSeries) → SeriesSoFar index symbols numbers place made → length numbers ≤ place → all_at index symbols None numbers ≡ Ok made
-series_end index symbols numbers place made far le =
-    let front : all_at index symbols (last_of made) (drop place numbers) ≡ Ok [] = rw (drop_all) (nothing_left _ _ _) in
+pub series_end : (index : List ℕ) (symbols : List (List ℕ)) (numbers : List ℕ) (place : ℕ) (last : Option ℕ) (made : List IndexSeries) → SeriesSoFar index symbols numbers place last made → length numbers ≤ place → all_at index symbols None None numbers ≡ Ok made
+series_end index symbols numbers place last made far le =
+    let front : all_at index symbols last (last_of made) (drop place numbers) ≡ Ok [] = rw (drop_all) (nothing_left _ _ _ _) in
     far.whole ∙ ap (λ r. r >>= λ others. Ok (made ++ others)) front ∙ ap Ok (append-nil made)
 
 -- ---- lists of rows
@@ -96,6 +101,9 @@ no_list _ _ _ _ e = rw e refl
 no_lists : (part : Part) → lists_at part [] ≡ Ok []
 unfolding lists_at
 no_lists _ = refl
+
+pub lists_start : (part : Part) (rows : List PostingsRow) → ListsSoFar part rows 0 []
+lists_start part rows = record { many = refl; rise = λ k d lt. absurd (omega arith); whole = again _ }
 
 pub lists_step : (part : Part) (rows : List PostingsRow) (place : ℕ) (row : PostingsRow) (lists new : List (List ℕ)) (list : List ℕ)
     → ListsSoFar part rows place lists → slice_get rows place ≡ Some row → refused_as (refused_in 5) (list_in part row.offset) ≡ Ok list → IsStrictlyIncreasing list → new ≡ lists ++ list ∷ [] → ListsSoFar part rows (place + 1) new
@@ -131,3 +139,8 @@ pub gives_stop : {X Y Z E : Type 0} (no_memory : E) (view : X → Y) (r : Result
 gives_stop _ _ (Ok x) e _ _ is why then = absurd is
 gives_stop _ _ (Err d) e _ _ is (inl out) then = inl (is ∙ out)
 gives_stop _ _ (Err d) e _ _ is (inr refused) then = inr (then refused ∙ ap Err (sym is))
+
+pub stop_refused : {X Z E : Type 0} (P : X → Type 0) (r : Result X E) (e no_memory : E) (one : Result Z E) {A : Type 0} {all : Result A E} → IsErrAnd r (λ d. d ≡ e) → (e ≡ no_memory) ⊎ (one ≡ Err e) → (one ≡ Err e → all ≡ Err e) → MatchResult r P (λ d. (d ≡ no_memory) ⊎ (all ≡ Err d))
+stop_refused P (Ok x) e no_memory one is why then = absurd is
+stop_refused P (Err d) e no_memory one is (inl out) then = inl (is ∙ out)
+stop_refused P (Err d) e no_memory one is (inr refused) then = inr (then refused ∙ ap Err (sym is))

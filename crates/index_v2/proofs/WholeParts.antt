@@ -8,7 +8,7 @@ use Rattle.std.specs.declared.cmp.Ordering.TheVariants.{Less, Equal, Greater}
 use Rattle.std.proofs.lemmas.Option.{same_Some}
 use Rattle.base.proofs.Lists.{AllByRecursion-weaker}
 use Rattle.base.proofs.Membership.{contains_first, contains_later, place_of_member}
-use Rattle.base.proofs.Bools.{Less-from_is_lt, is_lt-from_Less}
+use Rattle.base.proofs.Bools.{Less-from_is_lt, is_lt-from_Less, and_first, and_second}
 use Rattle.base.proofs.Binds.{bind_ok, unless_ok, refused_as_ok, ok_is}
 use Rattle.label_sets.specs.declared.label.Label.{Label}
 use Rattle.index_parts.specs.declared.postings_row.PostingsRow.{PostingsRow}
@@ -20,7 +20,7 @@ use Rattle.index_parts.proofs.SeriesOrder.{series_total}
 use Rattle.index_v2.specs.declared.refusal.IndexRefusal.{IndexRefusal}
 use Rattle.index_v2.specs.SeriesLabels.{numbered_at}
 use Rattle.index_parts.specs.RowOrder.{compare_row}
-use Rattle.index_v2.specs.WholeReading.{may_stand_behind, behind_at, all_at, lists_at, gap_from, gap_of, gap_among, earlier_place, by_order}
+use Rattle.index_v2.specs.WholeReading.{stands_behind, may_stand_behind, behind_at, all_at, lists_at, gap_from, gap_of, gap_among, earlier_place, by_order}
 
 -- ---- the series in order
 
@@ -53,25 +53,31 @@ none_sorted : IsStrictlySortedBy compare_series []
 unfolding IsStrictlySortedBy
 none_sorted = tt
 
+-- each number's series stands behind that of the number before it
+abbrev pub AreApart : List ℕ → Option ℕ → List ℕ → Type 0
+AreApart index last [] = Unit {0}
+AreApart index last (number ∷ numbers) = (stands_behind index last number ≡ true) × AreApart index (Some number) numbers
+
 module _ (index : List ℕ) (symbols : List (List ℕ)) where
-  -- so many series, each that of its number, ascending
-  pub record AreRead (before : Option IndexSeries) (numbers : List ℕ) (list : List IndexSeries) : Type 0 where
+  -- so many series, each that of its number, apart and ascending
+  pub record AreRead (last : Option ℕ) (before : Option IndexSeries) (numbers : List ℕ) (list : List IndexSeries) : Type 0 where
     pub many : length numbers ≡ length list
     pub each : (number : ℕ) (one : IndexSeries) → Contains (zip numbers list) (number, one) → numbered_at index symbols number ≡ Ok one
+    pub apart : AreApart index last numbers
     pub behind : AreBehind before list
     pub ascend : IsStrictlySortedBy compare_series list
 
-  behind_parts : (before : Option IndexSeries) (number : ℕ) (one : IndexSeries) → behind_at index symbols before number ≡ Ok one → (numbered_at index symbols number ≡ Ok one) × (may_stand_behind before one ≡ true)
+  behind_parts : (last : Option ℕ) (before : Option IndexSeries) (number : ℕ) (one : IndexSeries) → behind_at index symbols last before number ≡ Ok one → (numbered_at index symbols number ≡ Ok one) × (stands_behind index last number ≡ true) × (may_stand_behind before one ≡ true)
   unfolding behind_at
-  behind_parts before _ _ e =
+  behind_parts last before number _ e =
       let read = bind_ok _ _ _ e in
       let test = unless_ok _ _ _ _ read.2 in
       let same = ok_is {E = IndexRefusal} _ _ test.1 in
-      (read.1 ∙ ap Ok same, ap (may_stand_behind before) (sym same) ∙ test.0)
+      (read.1 ∙ ap Ok same, and_first (stands_behind index last number) (may_stand_behind before read.0) test.0, ap (may_stand_behind before) (sym same) ∙ and_second (stands_behind index last number) (may_stand_behind before read.0) test.0)
 
-  behind_again : (before : Option IndexSeries) (number : ℕ) (one : IndexSeries) → numbered_at index symbols number ≡ Ok one → may_stand_behind before one ≡ true → behind_at index symbols before number ≡ Ok one
+  behind_again : (last : Option ℕ) (before : Option IndexSeries) (number : ℕ) (one : IndexSeries) → numbered_at index symbols number ≡ Ok one → stands_behind index last number ≡ true → may_stand_behind before one ≡ true → behind_at index symbols last before number ≡ Ok one
   unfolding behind_at
-  behind_again _ _ _ e test = rw (e, test) refl
+  behind_again _ _ _ _ e apart test = rw (e, apart, test) refl
 
   first_or_other : (number : ℕ) (numbers : List ℕ) (first : IndexSeries) (others : List IndexSeries) → numbered_at index symbols number ≡ Ok first → ((n : ℕ) (one : IndexSeries) → Contains (zip numbers others) (n, one) → numbered_at index symbols n ≡ Ok one)
       → (n : ℕ) (one : IndexSeries) (place : ℕ) → place < length (zip (number ∷ numbers) (first ∷ others)) → get_or (zip (number ∷ numbers) (first ∷ others)) place (n, one) ≡ (n, one) → numbered_at index symbols n ≡ Ok one
@@ -79,47 +85,48 @@ module _ (index : List ℕ) (symbols : List (List ℕ)) where
       ap (λ p. numbered_at index symbols p.0) (sym same) ∙ e ∙ ap (λ p. Ok p.1) same
   first_or_other _ _ _ _ e each n one (suc place) lt at = each n one (place, omega arith, at)
 
-  all_parts : (before : Option IndexSeries) (number : ℕ) (numbers : List ℕ) (list : List IndexSeries) → all_at index symbols before (number ∷ numbers) ≡ Ok list → (one : IndexSeries) × (others : List IndexSeries) × (behind_at index symbols before number ≡ Ok one) × (all_at index symbols (Some one) numbers ≡ Ok others) × (one ∷ others ≡ list)
+  all_parts : (last : Option ℕ) (before : Option IndexSeries) (number : ℕ) (numbers : List ℕ) (list : List IndexSeries) → all_at index symbols last before (number ∷ numbers) ≡ Ok list → (one : IndexSeries) × (others : List IndexSeries) × (behind_at index symbols last before number ≡ Ok one) × (all_at index symbols (Some number) (Some one) numbers ≡ Ok others) × (one ∷ others ≡ list)
   unfolding all_at
-  all_parts _ _ _ _ e =
+  all_parts _ _ _ _ _ e =
       let first = bind_ok _ _ _ e in
       let others = bind_ok _ _ _ first.2 in
       (first.0, others.0, first.1, others.1, ok_is {A = List IndexSeries} {E = IndexRefusal} _ _ others.2)
 
-  all_none : (before : Option IndexSeries) (list : List IndexSeries) → all_at index symbols before [] ≡ Ok list → [] ≡ list
+  all_none : (last : Option ℕ) (before : Option IndexSeries) (list : List IndexSeries) → all_at index symbols last before [] ≡ Ok list → [] ≡ list
   unfolding all_at
-  all_none _ _ e = ok_is {A = List IndexSeries} {E = IndexRefusal} _ _ e
+  all_none _ _ _ e = ok_is {A = List IndexSeries} {E = IndexRefusal} _ _ e
 
-  pub all_found : (before : Option IndexSeries) (numbers : List ℕ) (list : List IndexSeries) → all_at index symbols before numbers ≡ Ok list → AreRead before numbers list
-  all_found before [] _ e = subst (AreRead before []) (all_none _ _ e) (record { many = refl; each = λ number one has. absurd (omega arith); behind = none_behind _; ascend = none_sorted })
-  all_found before (number ∷ numbers) _ e =
-      let p = all_parts _ _ _ _ e in
-      let here = behind_parts _ _ _ p.2 in
-      let others = all_found (Some p.0) numbers _ p.3 in
-      subst (AreRead before (number ∷ numbers)) p.4 (record {
+  pub all_found : (last : Option ℕ) (before : Option IndexSeries) (numbers : List ℕ) (list : List IndexSeries) → all_at index symbols last before numbers ≡ Ok list → AreRead last before numbers list
+  all_found last before [] _ e = subst (AreRead last before []) (all_none _ _ _ e) (record { many = refl; each = λ number one has. absurd (omega arith); apart = tt; behind = none_behind _; ascend = none_sorted })
+  all_found last before (number ∷ numbers) _ e =
+      let p = all_parts _ _ _ _ _ e in
+      let here = behind_parts _ _ _ _ p.2 in
+      let others = all_found (Some number) (Some p.0) numbers _ p.3 in
+      subst (AreRead last before (number ∷ numbers)) p.4 (record {
         many = ap suc others.many;
         each = λ n one has. first_or_other number numbers p.0 p.1 here.0 others.each n one has.0 has.1 has.2;
-        behind = stands_found _ _ _ here.1 others.behind;
+        apart = (here.1, others.apart);
+        behind = stands_found _ _ _ here.2 others.behind;
         ascend = in_order _ _ others.behind others.ascend;
       })
 
-  all_joined : (before : Option IndexSeries) (number : ℕ) (numbers : List ℕ) (one : IndexSeries) (list : List IndexSeries) → behind_at index symbols before number ≡ Ok one → all_at index symbols (Some one) numbers ≡ Ok list → all_at index symbols before (number ∷ numbers) ≡ Ok (one ∷ list)
+  all_joined : (last : Option ℕ) (before : Option IndexSeries) (number : ℕ) (numbers : List ℕ) (one : IndexSeries) (list : List IndexSeries) → behind_at index symbols last before number ≡ Ok one → all_at index symbols (Some number) (Some one) numbers ≡ Ok list → all_at index symbols last before (number ∷ numbers) ≡ Ok (one ∷ list)
   unfolding all_at
-  all_joined _ _ _ _ _ e f = rw (e, f) refl
+  all_joined _ _ _ _ _ _ e f = rw (e, f) refl
 
-  all_nothing : (before : Option IndexSeries) → all_at index symbols before [] ≡ Ok []
+  all_nothing : (last : Option ℕ) (before : Option IndexSeries) → all_at index symbols last before [] ≡ Ok []
   unfolding all_at
-  all_nothing _ = refl
+  all_nothing _ _ = refl
 
-  pub all_again : (before : Option IndexSeries) (numbers : List ℕ) (list : List IndexSeries) → AreRead before numbers list → all_at index symbols before numbers ≡ Ok list
-  all_again _ [] [] are = all_nothing _
-  all_again _ [] (one ∷ list) are = let m = are.many in absurd (omega arith)
-  all_again _ (number ∷ numbers) [] are = let m = are.many in absurd (omega arith)
-  all_again _ (number ∷ numbers) (one ∷ list) are =
+  pub all_again : (last : Option ℕ) (before : Option IndexSeries) (numbers : List ℕ) (list : List IndexSeries) → AreRead last before numbers list → all_at index symbols last before numbers ≡ Ok list
+  all_again _ _ [] [] are = all_nothing _ _
+  all_again _ _ [] (one ∷ list) are = let m = are.many in absurd (omega arith)
+  all_again _ _ (number ∷ numbers) [] are = let m = are.many in absurd (omega arith)
+  all_again _ _ (number ∷ numbers) (one ∷ list) are =
       let m = are.many in
       let order = order_parts _ _ are.ascend in
-      all_joined _ _ _ _ _ (behind_again _ _ _ (are.each number one (contains_first _ _)) (stands_again _ _ _ are.behind))
-      (all_again _ _ _ (record { many = omega arith; each = λ n o has. are.each n o (contains_later _ _ _ has); behind = order.0; ascend = order.1 }))
+      all_joined _ _ _ _ _ _ (behind_again _ _ _ _ (are.each number one (contains_first _ _)) are.apart.0 (stands_again _ _ _ are.behind))
+      (all_again _ _ _ _ (record { many = omega arith; each = λ n o has. are.each n o (contains_later _ _ _ has); apart = are.apart.1; behind = order.0; ascend = order.1 }))
 
 -- ---- the lists
 

@@ -1,13 +1,13 @@
 -- A whole index is read exactly where the bytes are an index of the list, and where the lists differ the first place is told.
 use Rattle.std.proofs.Common.{◌≡◌, ◌≢◌, ℕ, ◌*◌, Bool, true, false, List, [], ◌∷◌, map, zip, Option, Some, None, Result, Ok, Err, refl, sym, ap, subst, ◌∙◌, ◌⊎◌, inl, inr}
-use Rattle.std.specs.Prelude.{nat_lt}
+use Rattle.std.specs.Prelude.{nat_lt, nat_le, ◌&&◌}
 use Rattle.std.proofs.lemmas.Bool.{cases_lt}
 use Rattle.std.proofs.lemmas.Cmp.{tied_itself}
 use Rattle.base.proofs.Lists.{zip_parts}
 use Rattle.base.proofs.Membership.{contains_place, place_of_member}
 use Rattle.base.specs.Reading.{◌>>=◌, ◌>>◌, unless, refused_as, Gives}
 use Rattle.base.specs.Grammar.{IsBytes}
-use Rattle.base.proofs.Binds.{refused_as_err, ok_is, err_is}
+use Rattle.base.proofs.Binds.{bind_ok, refused_as_err, ok_is, err_is}
 use Rattle.label_sets.specs.declared.label.Label.{Label}
 use Rattle.index_parts.specs.declared.refusal.PartRefusal.{PartRefusal}
 use Rattle.index_parts.specs.declared.refusal.PartRefusal.TheVariants as part
@@ -24,16 +24,17 @@ use Rattle.index_v2.specs.declared.refusal.IndexRefusal.{IndexRefusal}
 use Rattle.index_v2.specs.declared.refusal.IndexRefusal.TheVariants.{BadSeries, PostingsDiffer, NoMemory}
 use Rattle.index_v2.specs.Opening.{refused_in, refused_of, opened_at}
 use Rattle.index_parts.specs.RowOrder.{StandsAt}
-use Rattle.index_parts.specs.Parts.{Part, file}
+use Rattle.index_parts.specs.Parts.{Part, file, lists_size}
 use Rattle.index_v2.specs.Held.{whole_file}
 use Rattle.index_v2.specs.PostingsLists.{row_of, list_of, postings_of}
-use Rattle.index_v2.specs.WholeReading.{present_at, may_stand_behind, behind_at, all_at, lists_at, difference, unless_differ, whole_at}
+use Rattle.index_v2.specs.WholeReading.{present_at, stands_behind, may_stand_behind, behind_at, all_at, lists_at, few_at, difference, differing_at, unless_differ, whole_at}
 use Rattle.index_v2.specs.Differing.{DiffersAt, DifferFirstAt}
 use Rattle.index_parts.proofs.RowPlaces.{rows_total, equal_texts}
 use Rattle.index_parts.proofs.RowsBegin.{same_compare}
 use Rattle.index_v2.proofs.OpeningLaws.{opened_again}
 use Rattle.index_v2.proofs.LeastPlaces.{IsLeast, least_is}
 use Rattle.index_v2.proofs.WholeParts.{both_none, gaps_found}
+use Rattle.index_v2.proofs.ListsFew.{few_found}
 use Rattle.index_v2.proofs.WholeLaws.{HasRead, AreTaken, series_known, as_listed, are_taken, read_again, ok_same}
 use Rattle.index_v2.proofs.Faults.{FaultAt, no_fault_listed, faults_least, differs_least}
 
@@ -101,19 +102,23 @@ present_never toc (number ∷ numbers) =
     (then_never _ _ (unless_never (nat_lt 0 toc.series) _ (in_section 2 (part.Short 0)))
     (then_never _ _ (unless_never (nat_lt 0 toc.postings) _ (in_section 5 (part.Short 0))) (ok_never _)))
 
-behind_never : (index : List ℕ) (symbols : List (List ℕ)) (before : Option IndexSeries) (number : ℕ) → NeverDiffers (behind_at index symbols before number)
+behind_never : (index : List ℕ) (symbols : List (List ℕ)) (last : Option ℕ) (before : Option IndexSeries) (number : ℕ) → NeverDiffers (behind_at index symbols last before number)
 unfolding behind_at
-behind_never _ _ before number =
+behind_never index _ last before number =
     bind_never _ _
     (refused_never _ _ (of_series _))
-    (λ series. then_never (unless (may_stand_behind before series) (BadSeries number (part.Unordered (16 * number)))) (Ok series) (unless_never _ _ (of_series number (part.Unordered (16 * number)))) (ok_never _))
+    (λ series. then_never (unless (stands_behind index last number && may_stand_behind before series) (BadSeries number (part.Unordered (16 * number)))) (Ok series) (unless_never _ _ (of_series number (part.Unordered (16 * number)))) (ok_never _))
 
-all_never : (index : List ℕ) (symbols : List (List ℕ)) (before : Option IndexSeries) (numbers : List ℕ) → NeverDiffers (all_at index symbols before numbers)
+all_never : (index : List ℕ) (symbols : List (List ℕ)) (last : Option ℕ) (before : Option IndexSeries) (numbers : List ℕ) → NeverDiffers (all_at index symbols last before numbers)
 unfolding all_at
-all_never index symbols before [] = ok_never {A = List IndexSeries} _
-all_never index symbols before (number ∷ numbers) =
-    bind_never _ _ (behind_never _ _ _ _)
-    (λ series. bind_never (all_at index symbols (Some series) numbers) (λ others. Ok (series ∷ others)) (all_never index symbols (Some series) numbers) (λ others. ok_never (series ∷ others)))
+all_never index symbols last before [] = ok_never {A = List IndexSeries} _
+all_never index symbols last before (number ∷ numbers) =
+    bind_never _ _ (behind_never _ _ _ _ _)
+    (λ series. bind_never (all_at index symbols (Some number) (Some series) numbers) (λ others. Ok (series ∷ others)) (all_never index symbols (Some number) (Some series) numbers) (λ others. ok_never (series ∷ others)))
+
+few_never : (toc : Toc) (here : Part) (rows : List PostingsRow) → NeverDiffers (few_at toc here rows)
+unfolding few_at
+few_never toc here rows = unless_never (nat_le (lists_size here rows) (8 * toc.postings_table)) _ (in_section 5 (part.Unordered toc.postings))
 
 lists_never : (part : Part) (rows : List PostingsRow) → NeverDiffers (lists_at part rows)
 unfolding lists_at
@@ -122,6 +127,17 @@ lists_never part (row ∷ rows) =
     bind_never _ _ (refused_never _ _ (in_section 5))
     (λ list. bind_never (lists_at part rows) (λ others. Ok (list ∷ others)) (lists_never part rows) (λ others. ok_never (list ∷ others)))
 
+differing_never : (part : Part) (rows : List PostingsRow) (listed : List (ℕ × IndexSeries)) → NeverDiffers (differing_at part rows listed)
+unfolding differing_at
+differing_never part rows listed = bind_never (lists_at part rows) (λ lists. Ok (difference rows lists listed)) (lists_never part rows) (λ lists. ok_never _)
+
+-- the lists that were read
+differing_parts : (part : Part) (rows : List PostingsRow) (listed : List (ℕ × IndexSeries)) (found : Option ℕ) → differing_at part rows listed ≡ Ok found → (lists : List (List ℕ)) × (lists_at part rows ≡ Ok lists) × (difference rows lists listed ≡ found)
+unfolding differing_at
+differing_parts part rows listed found e =
+    let lists = bind_ok (lists_at part rows) _ found e in
+    (lists.0, lists.1, ok_is {E = IndexRefusal} _ _ lists.2)
+
 -- ---- the whole
 
 -- what was read where the end is reached
@@ -129,16 +145,18 @@ whole_parts : (opened : Opened) (end : Result (List IndexSeries) IndexRefusal) �
     → (numbers : List ℕ) × (list : List IndexSeries) × (lists : List (List ℕ)) × HasRead opened numbers list lists × ((unless_differ (difference opened.rows lists (zip numbers list)) >> Ok list) ≡ end)
 unfolding whole_at
 whole_parts opened end is e =
-    let numbers = bind_end (postings_of (whole_file opened) [] []) (λ numbers. present_at opened.toc numbers >> (all_at opened.bytes opened.symbols None numbers >>= λ series. lists_at (file opened.bytes) opened.rows >>= λ lists. unless_differ (difference opened.rows lists (zip numbers series)) >> Ok series)) _ (list_never (file opened.bytes) (row_of opened.rows [] [])) is e in
+    let numbers = bind_end (postings_of (whole_file opened) [] []) (λ numbers. present_at opened.toc numbers >> (all_at opened.bytes opened.symbols None None numbers >>= λ series. few_at opened.toc (file opened.bytes) opened.rows >> (differing_at (file opened.bytes) opened.rows (zip numbers series) >>= λ found. unless_differ found >> Ok series))) _ (list_never (file opened.bytes) (row_of opened.rows [] [])) is e in
     let present = then_end _ _ _ (present_never _ _) is numbers.2 in
-    let series = bind_end _ _ _ (all_never _ _ _ _) is present.2 in
-    let lists = bind_end _ _ _ (lists_never _ _) is series.2 in
-    (numbers.0, series.0, lists.0, record { listed = numbers.1; present = present.1; series = series.1; read = lists.1 }, lists.2)
+    let series = bind_end _ _ _ (all_never _ _ _ _ _) is present.2 in
+    let few = then_end _ _ _ (few_never opened.toc (file opened.bytes) opened.rows) is series.2 in
+    let found = bind_end _ _ _ (differing_never (file opened.bytes) opened.rows (zip numbers.0 series.0)) is few.2 in
+    let lists = differing_parts (file opened.bytes) opened.rows (zip numbers.0 series.0) found.0 found.1 in
+    (numbers.0, series.0, lists.0, record { listed = numbers.1; present = present.1; series = series.1; few = few.1; read = lists.1 }, subst (λ (o : Option ℕ). (unless_differ o >> Ok series.0) ≡ end) (sym lists.2) found.2)
 
 -- what was read of each part, and where the lists differ, is what reading gives
 whole_joined : (opened : Opened) (numbers : List ℕ) (list : List IndexSeries) (lists : List (List ℕ)) (where_differ : Option ℕ) → HasRead opened numbers list lists → difference opened.rows lists (zip numbers list) ≡ where_differ → whole_at (whole_file opened) ≡ (unless_differ where_differ >> Ok list)
-unfolding whole_at
-whole_joined _ _ _ _ _ has e = rw (has.listed, has.present, has.series, has.read, e) refl
+unfolding whole_at differing_at
+whole_joined _ _ _ _ _ has e = rw (has.listed, has.present, has.series, has.few, has.read, e) refl
 
 ok_end : {A : Type 0} (x : A) → IsEnd (Ok x)
 ok_end x refusal e = absurd cc
@@ -170,6 +188,7 @@ module _ (opened : Opened) (are : IsBytes opened.bytes) (is : IsOpened opened) w
             let found = gaps_found opened.rows lists listed gaps.1 number series h label labelled in
             let texts = equal_texts found.1 label.name label.value found.3 in
             (found.1, contains_place opened.rows found.0 found.1 found.2, texts.0, texts.1);
+        lists_few = few_found opened has.few;
       }
 
   pub whole_found : (list : List IndexSeries) → whole_at (whole_file opened) ≡ Ok list → IsIndex opened.bytes list
@@ -189,6 +208,7 @@ module _ (opened : Opened) (are : IsBytes opened.bytes) (is : IsOpened opened) w
         listed = listed;
         series_are = series_known opened parts.0 parts.1 parts.2 are is parts.3;
         lists_stand = λ row h. let at = place_of_member opened.rows row h in let each = taken.lists_are.each at.0 row at.1 in (each.0, list_found IsNextPosting posting_at posting_turn opened.bytes row.offset each.0 are each.2);
+        lists_few = few_found opened parts.3.few;
         differs = least.0;
         first = least.1;
       }
@@ -198,7 +218,7 @@ module _ (opened : Opened) (are : IsBytes opened.bytes) (is : IsOpened opened) w
   differ_again place d =
       let numbers = map (λ (one : ℕ × IndexSeries). one.0) d.listed in
       let list = map (λ (one : ℕ × IndexSeries). one.1) d.listed in
-      let read = read_again opened d.listed is d.series_are d.lists_stand in
+      let read = read_again opened d.listed is d.series_are d.lists_few d.lists_stand in
       let taken : AreTaken opened.bytes opened.rows read.0 d.listed numbers = subst (λ (ps : List (ℕ × IndexSeries)). AreTaken opened.bytes opened.rows read.0 ps numbers) (zip_parts d.listed) (are_taken opened _ _ _ are is read.1) in
       let told : difference opened.rows read.0 d.listed ≡ Some place = least_is _ _ _ (differs_least _ _ _ _ numbers taken) d.differs d.first in
       whole_joined _ _ _ _ _ read.1 (ap (difference opened.rows read.0) (zip_parts _) ∙ told)
@@ -227,7 +247,7 @@ module _ (index : List ℕ) (list : List IndexSeries) (is : IsIndex index list) 
   read_opened =
       let numbers = map (λ one. one.0) is.listed in
       let series = map (λ one. one.1) is.listed in
-      let read = read_again _ _ is.is_opened is.series_are (λ row h. ((is.rows_are row h).numbers, (is.rows_are row h).stands)) in
+      let read = read_again _ _ is.is_opened is.series_are is.lists_few (λ row h. ((is.rows_are row h).numbers, (is.rows_are row h).stands)) in
       let taken = subst (λ ps. AreTaken is.opened.bytes is.opened.rows read.0 ps numbers) (zip_parts _) (are_taken is.opened _ _ _ are is.is_opened read.1) in
       let exact = nowhere _ _ (differs_least _ _ _ _ numbers taken) agrees in
       whole_joined _ _ _ _ _ read.1 (ap (difference is.opened.rows read.0) (zip_parts _) ∙ exact) ∙ ap Ok is.list_is

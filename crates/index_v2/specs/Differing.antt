@@ -7,7 +7,7 @@ use Rattle.index_parts.specs.Postings.{IsPostings}
 use Rattle.index_parts.specs.declared.index_series.IndexSeries.{IndexSeries}
 use Rattle.index_parts.specs.Opened.{Opened}
 use Rattle.index_parts.specs.RowOrder.{StandsAt}
-use Rattle.index_parts.specs.IndexFile.{AreSeriesOf, IsListOf}
+use Rattle.index_parts.specs.IndexFile.{AreSeriesOf, IsListOf, AreFewLists}
 
 -- the row at a place does not list exactly its series
 abbrev pub ListsOthersAt : List ℕ → List PostingsRow → List (ℕ × IndexSeries) → ℕ → Type 0
@@ -21,11 +21,12 @@ LacksRowAt rows listed place = (number : ℕ) × (series : IndexSeries) × (labe
 abbrev pub DiffersAt : List ℕ → List PostingsRow → List (ℕ × IndexSeries) → ℕ → Type 0
 DiffersAt index rows listed place = ListsOthersAt index rows listed place ⊎ LacksRowAt rows listed place
 
--- These are the listed series, each row of the table has a list, and this is the first place of the table at which the lists
+-- These are the listed series, each row of the table has a list, these are few for the bytes before it, and this is the first place of the table at which the lists
 -- are not those of the series.
 pub record DifferFirstAt (opened : Opened) (place : ℕ) : Type 0 where
   pub listed : List (ℕ × IndexSeries)
   pub series_are : AreSeriesOf opened listed
   pub lists_stand : (row : PostingsRow) → Contains opened.rows row → (numbers : List ℕ) × IsPostings opened.bytes row.offset numbers
+  pub lists_few : AreFewLists opened
   pub differs : DiffersAt opened.bytes opened.rows listed place
   pub first : (k : ℕ) → k < place → DiffersAt opened.bytes opened.rows listed k → ⊥

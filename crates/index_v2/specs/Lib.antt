@@ -11,4 +11,5 @@ pub mod PostingsLists
 pub mod WholeReading
 pub mod Differing
 pub mod WholeGiven
-pub mod Budget
+pub mod Sizes
+pub mod Ranks

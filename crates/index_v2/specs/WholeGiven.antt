@@ -12,7 +12,7 @@ use Rattle.index_v2.specs.declared.refusal.IndexRefusal.{IndexRefusal}
 use Rattle.index_v2.specs.declared.refusal.IndexRefusal.TheVariants.{NoMemory, BadSeries, PostingsDiffer}
 use Rattle.index_v2.specs.Held.{Held, IsWhole, IsHeldOf, opened_of, whole_file}
 use Rattle.index_v2.specs.PostingsLists.{postings_of}
-use Rattle.index_v2.specs.Budget.{members_of, text_bytes, read_share, text_share}
+use Rattle.index_v2.specs.Sizes.{members_of}
 use Rattle.index_v2.specs.WholeReading.{present_at, whole_at}
 use Rattle.index_v2.specs.Differing.{DifferFirstAt}
 
@@ -32,7 +32,6 @@ pub record GivesWhole (held : Held) (result : Result (List IndexSeries) IndexRef
   pub same : (opened : Opened) → IsHeldOf held opened → ((row : PostingsRow) → Contains held.rows row → HoldsSection held.lists row.offset)
       → ((number : ℕ) (numbers : List ℕ) → postings_of held [] [] ≡ Ok (number ∷ numbers) → present_at held.toc (number ∷ numbers) ≡ Ok tt → ⊥)
       → Gives NoMemory (λ (list : List IndexSeries). list) result (whole_at (whole_file opened))
-  -- what it takes
-  pub bounded : IfOk result (λ list. sum_by members_of list ≤ read_share * length held.bytes)
-  pub texts : IfOk result (λ list. sum_by text_bytes list ≤ text_share * length held.bytes)
+  -- what it takes: together the series have no more labels and chunks than the file has bytes
+  pub bounded : IfOk result (λ list. sum_by members_of list ≤ length held.bytes)
   pub few : IsWhole held → IfOk result (λ list. (4 * length list ≤ length held.bytes) × All (λ series. 2 * length series.labels + 3 * length series.chunks ≤ length held.bytes) list)

@@ -1,6 +1,7 @@
 -- What reading a whole index gives, or the first refusal.
-use Rattle.std.specs.Prelude.{ℕ, ◌+◌, ◌*◌, List, [], ◌∷◌, length, zip, Option, Some, None, Bool, true, false, ◌&&◌, Result, Ok, Err, ◌==◌, nat_lt, min, if◌then◌else◌}
+use Rattle.std.specs.Prelude.{◌≡◌, ℕ, ◌+◌, ◌*◌, ◌≤◌, List, [], ◌∷◌, length, take, zip, All, Option, Some, None, Bool, true, false, ◌&&◌, Result, Ok, Err, ◌==◌, nat_lt, nat_le, min, if◌then◌else◌}
 use Rattle.std.specs.List.{list_any, list_all}
+use Rattle.std.specs.List.Sorted.{IsStrictlyIncreasing}
 use Rattle.std.specs.Str.{bytes_eq}
 use Rattle.std.specs.declared.cmp.Ordering.{Ordering}
 use Rattle.std.specs.declared.cmp.Ordering.TheVariants.{Less, Equal, Greater}
@@ -12,7 +13,7 @@ use Rattle.label_sets.specs.Labels.{compare_sets, value_of}
 use Rattle.index_parts.specs.declared.refusal.PartRefusal.TheVariants as part
 use Rattle.index_parts.specs.declared.toc_reading.Toc.{Toc}
 use Rattle.index_parts.specs.declared.postings_row.PostingsRow.{PostingsRow}
-use Rattle.index_parts.specs.Parts.{Part, list_in}
+use Rattle.index_parts.specs.Parts.{Part, list_in, lists_size}
 use Rattle.index_parts.specs.declared.index_series.IndexSeries.{IndexSeries}
 use Rattle.index_parts.specs.IndexFile.{series_unit}
 use Rattle.index_v2.specs.declared.refusal.IndexRefusal.{IndexRefusal}
@@ -20,6 +21,7 @@ use Rattle.index_v2.specs.declared.refusal.IndexRefusal.TheVariants.{BadSection,
 use Rattle.index_v2.specs.Held.{Held}
 use Rattle.index_v2.specs.Opening.{refused_in, symbols_section, series_section, postings_section}
 use Rattle.index_v2.specs.SeriesLabels.{numbered_at}
+use Rattle.index_v2.specs.Sizes.{series_bytes}
 use Rattle.index_parts.specs.RowOrder.{compare_row}
 use Rattle.index_v2.specs.PostingsLists.{postings_of}
 
@@ -32,27 +34,37 @@ present_at toc (number ∷ numbers) = do
   unless (nat_lt 0 toc.postings) (BadSection postings_section (part.Short 0))
   Ok tt
 
--- ---- the listed series, ascending by their labels
+-- ---- the listed series, one behind the other, ascending by their labels
 
--- whether a series may stand behind another, or first
+-- whether the series of a number stands behind what that of another number holds, or first
+abbrev pub stands_behind : List ℕ → Option ℕ → ℕ → Bool
+stands_behind index None number = true
+stands_behind index (Some before) number = nat_le (series_unit * before + series_bytes index before) (series_unit * number)
+
+-- whether the labels of a series may stand behind those of another, or first
 abbrev pub may_stand_behind : Option IndexSeries → IndexSeries → Bool
 may_stand_behind None series = true
 may_stand_behind (Some before) series = is_lt (compare_sets before.labels series.labels)
 
-unfoldable pub behind_at : List ℕ → List (List ℕ) → Option IndexSeries → ℕ → Result IndexSeries IndexRefusal
-behind_at index symbols before number = do
+-- the series of a number behind that of another number
+unfoldable pub behind_at : List ℕ → List (List ℕ) → Option ℕ → Option IndexSeries → ℕ → Result IndexSeries IndexRefusal
+behind_at index symbols last before number = do
   series ← numbered_at index symbols number
-  unless (may_stand_behind before series) (BadSeries number (part.Unordered (series_unit * number)))
+  unless (stands_behind index last number && may_stand_behind before series) (BadSeries number (part.Unordered (series_unit * number)))
   Ok series
 
-unfoldable pub all_at : List ℕ → List (List ℕ) → Option IndexSeries → List ℕ → Result (List IndexSeries) IndexRefusal
-all_at index symbols before [] = Ok []
-all_at index symbols before (number ∷ numbers) = do
-  series ← behind_at index symbols before number
-  others ← all_at index symbols (Some series) numbers
+unfoldable pub all_at : List ℕ → List (List ℕ) → Option ℕ → Option IndexSeries → List ℕ → Result (List IndexSeries) IndexRefusal
+all_at index symbols last before [] = Ok []
+all_at index symbols last before (number ∷ numbers) = do
+  series ← behind_at index symbols last before number
+  others ← all_at index symbols (Some number) (Some series) numbers
   Ok (series ∷ others)
 
 -- ---- the postings lists, in the table's order
+
+-- together they are few for the bytes before the table: tested before any of them is read
+unfoldable pub few_at : Toc → Part → List PostingsRow → Result (Unit {0}) IndexRefusal
+few_at toc here rows = unless (nat_le (lists_size here rows) (8 * toc.postings_table)) (BadSection postings_section (part.Unordered toc.postings))
 
 unfoldable pub lists_at : Part → List PostingsRow → Result (List (List ℕ)) IndexRefusal
 lists_at part [] = Ok []
@@ -115,19 +127,41 @@ gap_among rows lists (one ∷ listed) = earlier_place (gap_of rows lists one.0 o
 abbrev pub difference : List PostingsRow → List (List ℕ) → List (ℕ × IndexSeries) → Option ℕ
 difference rows lists listed = earlier_place (stray_from 0 rows lists listed) (gap_among rows lists listed)
 
+-- by reading the lists
+unfoldable pub differing_at : Part → List PostingsRow → List (ℕ × IndexSeries) → Result (Option ℕ) IndexRefusal
+differing_at part rows listed = do
+  lists ← lists_at part rows
+  Ok (difference rows lists listed)
+
+-- the same lists before a place, or throughout
+abbrev pub SameBefore : Option ℕ → List (List ℕ) → List (List ℕ) → Type 0
+SameBefore None kept lists = kept ≡ lists
+SameBefore (Some place) kept lists = (place ≤ length kept) × (take place kept ≡ take place lists)
+
+-- All lists are read, and the first row whose list has a number of another series is at this place. The lists before it are
+-- kept, and behind them stand as many others as there are rows.
+pub record AreKept (part : Part) (rows : List PostingsRow) (listed : List (ℕ × IndexSeries)) (kept : List (List ℕ)) (stray : Option ℕ) : Type 0 where
+  pub lists : List (List ℕ)
+  pub read : lists_at part rows ≡ Ok lists
+  pub many : length rows ≡ length kept
+  pub rise : All IsStrictlyIncreasing kept
+  pub stray_is : stray ≡ stray_from 0 rows lists listed
+  pub same : SameBefore stray kept lists
+
 abbrev pub unless_differ : Option ℕ → Result (Unit {0}) IndexRefusal
 unless_differ None = Ok tt
 unless_differ (Some place) = Err (PostingsDiffer place)
 
 -- ---- the whole
 
--- the list of all series, absent sections, the series in order, the postings lists in the table's order, and last whether
+-- the list of all series, absent sections, the series in order, how long the lists are, these in the table's order, and last whether
 -- these are exactly those of the series
 unfoldable pub whole_at : Held → Result (List IndexSeries) IndexRefusal
 whole_at held = do
   numbers ← postings_of held [] []
   present_at held.toc numbers
-  series ← all_at held.bytes held.symbols None numbers
-  lists ← lists_at held.lists held.rows
-  unless_differ (difference held.rows lists (zip numbers series))
+  series ← all_at held.bytes held.symbols None None numbers
+  few_at held.toc held.lists held.rows
+  where_differ ← differing_at held.lists held.rows (zip numbers series)
+  unless_differ where_differ
   Ok series

@@ -1,3 +1,7 @@
+//! An opened index: the file of a block that is checked or merged, or the parts that a gateway got by ranges. Opening
+//! reads the tables alone; whether all sections agree is told by `whole`, and the other calls agree with what that
+//! answers.
+
 ghost use Rattle.std.specs.Prelude.{◌≡◌, ◌⊎◌, ◌+◌, ◌-◌, ◌*◌, ◌^◌, ◌<◌, ◌≤◌, [], length, All, slice_get, MatchResult, IfOk, IfErr, IfSome, Ok, Err, Some, None, option_map};
 ghost use Rattle.std.specs.Result.{IsOkAnd};
 ghost use Rattle.std.specs.Option.{option_copied};
@@ -13,13 +17,11 @@ ghost use Rattle.index_parts.specs.Parts.{part_of, file, known, IsPartOf, HoldsS
 ghost use Rattle.index_v2.specs.Held.{opened_in, opened_of, whole_file, IsWhole, IsHeldOf, IsReaderOf, HasList, AreSlicesOf, HoldTables};
 ghost use Rattle.index_v2.specs.Opening.{contents_at, opened_at, over_at, postings_section};
 ghost use Rattle.index_v2.specs.SeriesLabels.{numbered_at};
-ghost use Rattle.index_v2.specs.Budget.{text_bytes, list_bytes, text_share};
 ghost use Rattle.index_v2.specs.WholeGiven.{GivesWhole};
 ghost use Rattle.index_v2.specs.PostingsLists.{is_row_of, row_of, list_of, postings_of, values_of};
 ghost use Rattle.index_parts.specs.RowOrder.{BeginsAt, IsAlone};
 ghost use Rattle.std.specs.List.Sorted.{IsStrictlyIncreasing, IsStrictlySortedBy};
 
-use crate::budget::{list_bytes, text_budget_in};
 use crate::numbered::{lent_series_of, series_of, series_of_file};
 use crate::opening::contents_of;
 use crate::postings::{list_at, list_of, values_of};
@@ -233,8 +235,7 @@ impl<'a> IndexReader<'a> {
         self.symbols.get(u64::from(number))
     }
 
-    /// Reads the series of a number, which need not be listed. Its labels' texts come to 64 bytes for each byte of the index at most.
-    /// Where parts of the index are there no series is.
+    /// Reads the series of a number, which need not be listed. Where parts of the index are there no series is.
     pub fn series(&self, alloc: Global, number: u32) -> Result<IndexSeries, IndexRefusal>
         // What is read is what stands there, and what stands there is read.
         ensures found { IfOk result
@@ -251,8 +252,6 @@ impl<'a> IndexReader<'a> {
         // The first refusal.
         ensures exact { Gives IndexRefusal.NoMemory
             (λ series. series) result (numbered_at self.now.bytes self.now.symbols number) }
-        ensures texts { IfOk result
-            (λ series. text_bytes series ≤ text_share * length self.now.bytes) }
         ensures absent { self.now.bytes ≡ []
             → (result ≡ Err (IndexRefusal.BadSeries number (Short (series_unit * number))))
             ⊎ (result ≡ Err IndexRefusal.NoMemory) }
@@ -263,11 +262,7 @@ impl<'a> IndexReader<'a> {
         series_of_file(alloc, self.bytes, &self.symbols, number)
     }
 
-    /// Reads the series of a number in a part of the index that begins at a place. Its labels' texts come to 64 bytes at most for
-    /// each byte that the reader has of the index: those from which it read its tables, and the part. Of an index of a list no
-    /// listed series comes to more than the postings table, in which each of its labels has a row with its texts. And whatever
-    /// the rows, no series of at most 63 labels comes to more than 64 for each byte of the symbols: its names differ, so that
-    /// together they are no longer than these, and neither is any of its values.
+    /// Reads the series of a number in a part of the index that begins at a place.
     pub fn series_in(
         &self,
         alloc: Global,
@@ -309,8 +304,6 @@ impl<'a> IndexReader<'a> {
             (λ series. series) result
             (numbered_at (known (record { begin = at; bytes = part.now }))
             self.now.symbols number) }
-        ensures texts { IfOk result (λ series. text_bytes series ≤ text_share
-            * (self.now.symbols_size + self.now.rows_size + length part.now)) }
         ensures few { IfOk result
             (λ series. 2 * length series.labels + 3 * length series.chunks ≤ length part.now) }
     {
@@ -318,16 +311,14 @@ impl<'a> IndexReader<'a> {
             begin: at,
             bytes: part,
         };
-        let most = text_budget_in(self.symbols_size, self.rows_size, part.len());
-        series_of(alloc, bytes, &self.symbols, number, most)
+        series_of(alloc, bytes, &self.symbols, number)
     }
 
     /// Reads the series of a number into the room of another, of which nothing is kept but the memory of its lists: where these
     /// have room enough, none is taken. The labels' texts are lent from the index. Where nothing is read the room is given up.
     ///
     /// A call takes time in proportion to the bytes of its series and to the texts of its labels. Series of a hostile index may
-    /// lie within one another or share long texts: reading all that it lists may then take far more than its length, and whoever
-    /// walks through it has to set the bound, as `whole` does.
+    /// lie within one another: reading all that it lists may then take far more than its length. `whole` refuses such an index.
     #[inline(always)]
     pub fn lent_series(
         &self,
@@ -439,24 +430,6 @@ impl<'a> IndexReader<'a> {
         self.rows.place_of(name, value).ok()
     }
 
-    /// How many bytes the postings lists are read from.
-    pub fn lists_size(&self) -> usize
-        ensures { result ≡ length self.now.lists.bytes }
-    {
-        self.lists.bytes.len()
-    }
-
-    /// How many bytes the list of the row at a place is said to take, by the length that stands before it. It is 0 where no length
-    /// is there.
-    pub fn list_size(&self, place: usize) -> usize
-        requires { place < length self.now.rows }
-        ensures { (row : PostingsRow) → slice_get self.now.rows place ≡ Some row
-            → result ≡ list_bytes self.now.lists row }
-    {
-        let row = self.rows.get(place).unwrap();
-        list_bytes(self.lists, row.2)
-    }
-
     /// The numbers of the series that the row at a place lists.
     pub fn row_numbers(&self, alloc: Global, place: usize) -> Result<NumberList, IndexRefusal>
         requires { place < length self.now.rows }
@@ -517,12 +490,8 @@ impl<'a> IndexReader<'a> {
     /// Reads every series, ascending by labels, and tests that the postings table and its lists are exactly those of the
     /// series.
     ///
-    /// A lawful index may be made of series that lie within one another, or of many rows with one list. What it holds may then
-    /// be far more than its bytes, and reading it would take as much: it is answered with `NoMemory`. Counted are the bytes of
-    /// the series that are read with their labels and chunks, and the bytes of the lists with their numbers: neither passes
-    /// eight for each byte of the index. Where sections do not overlap and each row has a list of its own, as in each index
-    /// that a server writes, neither comes to two. The texts of the labels, which each series has for itself, come to 64 bytes
-    /// for each byte of the index at most.
+    /// Each series stands behind what the one before it holds. So together they have no more labels and chunks than the file has
+    /// bytes. The texts of the labels, which the index may hold once for many series, are copied for each.
     pub fn whole(&self, alloc: Global) -> Result<IndexSeriesList, IndexRefusal>
         ensures { GivesWhole self.now result }
     {
@@ -536,7 +505,7 @@ impl<'a> IndexReader<'a> {
         )
     }
 
-    /// Reads every series as `whole` does, with the same tests and the same bounds. The index lends the texts of their labels.
+    /// Reads every series as `whole` does, with the same tests. The index lends the texts of their labels.
     pub fn whole_lent(&self, alloc: Global) -> Result<List<LentSeries<'a>>, IndexRefusal>
         ensures { GivesWhole self.now result }
     {

@@ -1,7 +1,10 @@
-ghost use Rattle.std.specs.Prelude.{◌≡◌, [], map, Ok, Err, IfOk, MatchResult};
+//! A series whose labels' texts stay in the index. Checks and merges go through all series of a block in the room of
+//! one, so that a series takes no memory of its own.
+
+ghost use Rattle.std.specs.Prelude.{◌≡◌, [], map, Ok, IfOk, IsOk, OnOk};
 ghost use Rattle.base.specs.Reading.{Gives};
 ghost use Rattle.std.specs.Option.{option_copied};
-ghost use Rattle.label_sets.specs.Labels.{IsLabelSet, compare_sets, value_of};
+ghost use Rattle.label_sets.specs.Labels.{IsLabelSet, added, compare_sets, value_of};
 ghost use Rattle.index_v2.specs.LentLabels.{as_label};
 ghost use Rattle.index_v2.specs.SeriesLabels.{labelled_at};
 
@@ -11,7 +14,7 @@ use crate::series_labels::texts_of;
 use crate::symbols::Symbols;
 use base::{NoMemory, TryCopy};
 use index_parts::{ChunkList, ChunkPlace, PartRefusal, before_labels, chunks_behind};
-use label_sets::LabelSet;
+use label_sets::{LabelRefusal, LabelSet};
 use std::alloc::Global;
 use std::cmp::Ordering;
 use std::marker::Model;
@@ -106,8 +109,7 @@ impl<'a> LentSeries<'a> {
         self.chunks.members()
     }
 
-    /// A copy that lends nothing. It takes as much memory as the texts are long, and has no budget of the index's length, unlike
-    /// what the reader itself copies.
+    /// A copy that lends nothing. It takes as much memory as the texts are long.
     pub fn to_series(&self, alloc: Global) -> Result<IndexSeries, NoMemory>
         ensures { IfOk result (λ series. series ≡ self.now) }
     {
@@ -142,6 +144,23 @@ impl<'a> LentSeries<'a> {
     }
 }
 
+/// Adds a label that a set has room for: its name and its value are some text, and it is not there yet.
+pub fn add_label(set: &mut LabelSet, name: &str, value: &str) -> Result<(), NoMemory>
+    requires { IsOk (added set.old name.now value.now) }
+    ensures { OnOk result (added set.old name.now value.now ≡ Ok set.new) }
+{
+    match set.add(name, value) {
+        Ok(()) => Ok(()),
+        Err(LabelRefusal::NoMemory) => Err(NoMemory),
+        Err(
+            LabelRefusal::EmptyName
+            | LabelRefusal::EmptyValue
+            | LabelRefusal::Repeated
+            | LabelRefusal::BadText(_),
+        ) => unreachable!(),
+    }
+}
+
 /// The label set of these labels, with copies of their texts.
 pub fn set_of(alloc: Global, labels: &[LentLabel<'_>]) -> Result<LabelSet, NoMemory>
     requires { IsLabelSet (map as_label labels.now) }
@@ -149,9 +168,7 @@ pub fn set_of(alloc: Global, labels: &[LentLabel<'_>]) -> Result<LabelSet, NoMem
 {
     let mut set = LabelSet::empty(alloc);
     for label in labels {
-        if set.add(label.name, label.value).is_err() {
-            return Err(NoMemory);
-        }
+        add_label(&mut set, label.name, label.value)?;
     }
     Ok(set)
 }

@@ -1,7 +1,6 @@
 //! A Prometheus index of version 2 as a whole: its bytes are a list of series, each with its labels and its chunks.
 #![tactic(auto)]
 
-mod budget;
 mod difference;
 mod index_reader;
 mod lent_order;
@@ -11,16 +10,19 @@ mod nearby;
 mod numbered;
 mod opening;
 mod postings;
+mod ranked;
+mod ranks;
 mod refusal;
+mod row_ranks;
 mod rows;
 mod series_labels;
+mod sizes;
 mod symbols;
 mod whole;
 
-pub use budget::{READ_SHARE, TEXT_SHARE, spend};
 pub use index_parts::{IndexSeries, IndexSeriesList};
 pub use index_reader::IndexReader;
 pub use lent_order::compare_lent;
 pub use lent_parts::IndexParts;
-pub use lent_series::{LentLabel, LentSeries, set_of};
+pub use lent_series::{LentLabel, LentSeries, add_label, set_of};
 pub use refusal::IndexRefusal;

@@ -1,3 +1,6 @@
+//! The series of a number, in a whole index or in a part of one. What is copied of a series is bounded by its own bytes,
+//! so a number that a hostile list gives costs no more than that.
+
 ghost use Rattle.std.specs.Prelude.{◌≡◌, ◌⊎◌, ◌+◌, ◌-◌, ◌*◌, ◌^◌, ◌<◌, ◌≤◌, ℕ, List, length, IfOk, Ok, Err};
 ghost use Rattle.std.specs.Result.{IsOkAnd};
 ghost use Rattle.base.specs.Reading.{Gives};
@@ -7,12 +10,10 @@ ghost use Rattle.wire_bytes.specs.Fields.{uvarint_at};
 ghost use Rattle.wire_bytes.specs.declared.varint.WireRefusal.TheVariants.{Overlong};
 ghost use Rattle.index_parts.specs.Placed.{at_place};
 ghost use Rattle.index_parts.specs.declared.refusal.PartRefusal.TheVariants.{Short};
-ghost use Rattle.index_v2.specs.Budget.{text_bytes, text_share};
 ghost use Rattle.index_parts.specs.IndexFile.{IsSeriesOf, series_unit};
 ghost use Rattle.index_parts.specs.Parts.{part_of, known, IsPartOf, HoldsSeries};
 ghost use Rattle.index_v2.specs.SeriesLabels.{labelled_at, numbered_at};
 
-use crate::budget::{lent_text_bytes, spend, text_budget_of};
 use crate::opening::refused_of;
 use crate::symbols::Symbols;
 use crate::{IndexRefusal, IndexSeries, LentSeries};
@@ -53,35 +54,29 @@ pub(crate) fn lent_series_of<'a>(
     lent_at(index, symbols, number, room)
 }
 
-/// Reads the series at a place of the index, and copies its texts, where these are within their budget.
+/// Reads the series at a place of the index, and copies its texts.
 fn series_at(
     alloc: Global,
     index: &[u8],
     symbols: &Symbols<'_>,
     at: u64,
-    most: usize,
 ) -> Result<IndexSeries, PartRefusal>
     ensures bytes { IsBytes index.now }
-    ensures texts { IfOk result (λ series. text_bytes series ≤ most) }
     ensures exact { Gives PartRefusal.NoMemory
         (λ series. series) result (labelled_at index.now symbols.now at) }
 {
     match LentSeries::read(index, symbols, at, LentSeries::new(alloc)) {
-        Ok(series) => {
-            spend(most, lent_text_bytes(series.labels())?)?;
-            Ok(series.to_series(alloc)?)
-        }
+        Ok(series) => Ok(series.to_series(alloc)?),
         Err(refusal) => Err(refusal),
     }
 }
 
-/// Reads the series of a number in a part of an index. Its texts come to so many bytes at most.
+/// Reads the series of a number in a part of an index.
 pub(crate) fn series_of(
     alloc: Global,
     part: IndexPart<'_>,
     symbols: &Symbols<'_>,
     number: u32,
-    most: usize,
 ) -> Result<IndexSeries, IndexRefusal>
     requires begins { part.begin ≤ series_unit * number }
     requires fits { part.begin + length part.bytes.now < 2 ^ 64 }
@@ -98,7 +93,6 @@ pub(crate) fn series_of(
         ⊎ (result ≡ Err IndexRefusal.NoMemory) }
     ensures exact { Gives IndexRefusal.NoMemory
         (λ series. series) result (numbered_at (known (part_of part.entry)) symbols.now number) }
-    ensures texts { IfOk result (λ series. text_bytes series ≤ most) }
     ensures few { IfOk result (λ series.
         2 * length series.labels + 3 * length series.chunks ≤ length part.entry.bytes.now) }
 {
@@ -107,7 +101,6 @@ pub(crate) fn series_of(
         part.bytes,
         symbols,
         SERIES_UNIT * u64::from(number) - part.begin,
-        most,
     ) {
         Ok(series) => Ok(series),
         Err(refusal) => Err(refused_of(number, shifted_refusal(refusal, part.begin))),
@@ -124,14 +117,12 @@ pub(crate) fn series_of_file(
     ensures found { IfOk result (λ series. IsSeriesOf index.now symbols.now number series) }
     ensures only { (series : IndexSeries) → IsSeriesOf index.now symbols.now number series
         → (result ≡ Ok series) ⊎ (result ≡ Err IndexRefusal.NoMemory) }
-    ensures texts { IfOk result (λ series. text_bytes series ≤ text_share * length index.now) }
     ensures exact { Gives IndexRefusal.NoMemory
         (λ series. series) result (numbered_at index.now symbols.now number) }
 {
-    let most = text_budget_of(index.len());
     let file = IndexPart {
         begin: 0,
         bytes: index,
     };
-    series_of(alloc, file, symbols, number, most)
+    series_of(alloc, file, symbols, number)
 }

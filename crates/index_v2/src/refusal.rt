@@ -21,8 +21,7 @@ pub enum IndexRefusal {
     /// A row of the postings table does not list exactly its series, with its place, counted from 0. For a row that is
     /// missing it is the place where it would stand.
     PostingsDiffer(u32),
-    /// Memory ran out, or what is to be copied or read would pass the bound that is set by the index's length: a lawful index
-    /// whose sections lie within one another, whose rows share a list, or whose series share long texts, may ask for more.
+    /// Memory ran out.
     NoMemory,
 }
 

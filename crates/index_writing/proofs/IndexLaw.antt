@@ -1,5 +1,5 @@
 -- What is written of a list of series is an index of it, and has its label indices.
-use Rattle.std.proofs.Common.{◌≡◌, ◌≢◌, ℕ, ◌*◌, ◌<◌, ◌≤◌, false, List, [], ◌∷◌, ◌++◌, length, map, Result, Ok, Err, refl, sym, ap, ◌∙◌, subst, arith, inr}
+use Rattle.std.proofs.Common.{◌≡◌, ◌≢◌, ℕ, ◌*◌, ◌<◌, ◌≤◌, false, List, [], ◌∷◌, ◌++◌, length, map, None, Result, Ok, Err, refl, sym, ap, ◌∙◌, subst, arith, inr}
 use Rattle.std.specs.Prelude.{slice_get, option_map, unwrap_or, MatchBool, OnOk, ◌==◌}
 use Rattle.std.specs.List.{Contains}
 use Rattle.std.specs.List.Sorted.{IsStrictlySortedBy}
@@ -13,7 +13,7 @@ use Rattle.index_parts.specs.Symbols.{IsSymbols}
 use Rattle.index_parts.specs.declared.index_series.IndexSeries.{IndexSeries}
 use Rattle.index_writing.specs.declared.parts.Parts.{Parts}
 use Rattle.index_parts.specs.Opened.{Opened}
-use Rattle.index_parts.specs.IndexFile.{compare_series, Holds, IsIndex}
+use Rattle.index_parts.specs.IndexFile.{StandsBehind, compare_series, Holds, IsIndex}
 use Rattle.index_parts.specs.LabelTable.{HasLabelIndices}
 use Rattle.index_writing.specs.SymbolsInUse.{symbols_of, raw_of}
 use Rattle.index_writing.specs.Aligned.{places_at}
@@ -23,6 +23,8 @@ use Rattle.index_writing.specs.WriteSteps.{greatest, Makes, EachStands}
 use Rattle.index_writing.specs.Written.{AreWritable, first_or, up_to_symbols, table_rows, offset_rows, parts_of, with_series, with_label_indices, with_lists, list_places, with_label_offsets, with_table, toc_of, written}
 use Rattle.base.proofs.Lists.{zip_firsts, zip_seconds}
 use Rattle.base.proofs.Membership.{contains_first}
+use Rattle.index_writing.proofs.SeriesApart.{apart_written}
+use Rattle.index_writing.proofs.ListsFew.{lists_few}
 use Rattle.index_writing.proofs.SeriesNumbers.{numbers_after}
 use Rattle.index_writing.proofs.AlignedTexts.{padded_longer}
 use Rattle.index_writing.proofs.Standing.{longer}
@@ -101,6 +103,10 @@ module _ (list : List IndexSeries) (shown : IsShown list) where
       let stands = shown.table (table_in_order list (numbers list) (numbered list shown.labels) _) (toc_text (toc_of (parts_of list))) in
       holds_at IsPostingsTable (written list) _ _ (table_place list) (subst (λ l. IsPostingsTable l place (table list)) (sym (written_table list)) (subst (IsPostingsTable _ place) (table_is list) stands))
 
+  stand_apart : InOrder (StandsBehind (written list)) (numbers list)
+  unfolding parts_of with_series
+  stand_apart = let more = written_series list in apart_written (written list) None (up_to_symbols (symbols_of list)) more.more (map (raw_of (symbols_of list)) list) (let room = shown.room in omega arith) more.is tt
+
   pub index_law : AreWritable list → IsIndex (written list) list
   unfolding parts_of
   index_law lawful = record {
@@ -113,10 +119,12 @@ module _ (list : List IndexSeries) (shown : IsShown list) where
       numbers_are = subst (IsPostings (written list) (all_place list)) (sym (zip_firsts _ _ (many list))) (all_stands list shown.room shown.labels);
       present = inr (symbols_present list, series_present list, postings_present list);
       stand = λ n s has. series_hold list shown.room shown.labels n s shown.series has;
+      apart = subst (λ (ns : List ℕ). InOrder (StandsBehind (written list)) ns) (sym (zip_firsts _ _ (many list))) stand_apart;
       ascend = subst (IsStrictlySortedBy compare_series) (sym (zip_seconds _ _ (many list))) lawful.ascend;
     };
     rows_are = rows_hold list shown.room shown.labels;
     complete = λ n s has label h. complete list shown.room shown.labels n s label has h;
+    lists_few = lists_few list shown.room;
   }
 
   offsets_shown : IsLabelOffsets (written list) (toc_of (parts_of list)).label_offsets (offset_rows (parts_of list))

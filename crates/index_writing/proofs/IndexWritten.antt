@@ -69,7 +69,7 @@ module _ (list : List IndexSeries) where
   abbrev pub all_place : ℕ
   all_place = length (padded 4 (with_label_indices (parts_of list)))
 
-  abbrev row_places : List ℕ
+  abbrev pub row_places : List ℕ
   row_places = places_at 4 (padded 4 (with_label_indices (parts_of list)) ++ postings_text numbers) (map (λ row. postings_text row.series) rows)
 
   abbrev pub table : List PostingsRow
@@ -82,7 +82,7 @@ module _ (list : List IndexSeries) where
   pub many : length numbers ≡ length list
   many = sym (as_many_numbers _ _ _ refl) ∙ length-map _ _
 
-  many_rows : length row_places ≡ length rows
+  pub many_rows : length row_places ≡ length rows
   many_rows = places_many 4 _ _ ∙ length-map _ _
 
   pub numbered : AreLawful list → IsNumbered list numbers

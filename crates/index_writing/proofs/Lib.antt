@@ -10,6 +10,8 @@ pub mod Entries
 pub mod EntryOrder
 pub mod GroupLaws
 pub mod LabelRows
+pub mod SeriesApart
+pub mod ListsFew
 pub mod IndexLaw
 pub mod IndexWritten
 pub mod LabelTableLaw

@@ -1,3 +1,6 @@
+//! An index of a list of series, from the first section to the table of contents. There is one text for each list, so
+//! blocks of the same series have the same index, whoever writes it.
+
 ghost use Rattle.std.specs.Prelude.{◌↔◌, IsTrue, ◌≡◌, ◌++◌, ◌∷◌, [], ◌≤◌, ◌<◌, ◌*◌, ◌^◌, ℕ, List, length, slice_get, option_map, unwrap_or, IfOk, OnOk, OnErr, MatchResult};
 ghost use Rattle.std.specs.List.{All};
 ghost use Rattle.index_parts.specs.Turns.{InOrder};

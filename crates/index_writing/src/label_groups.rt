@@ -1,3 +1,6 @@
+//! From series to what an index lists of them: each label with the numbers of its series, and each name with its
+//! values. All labels are sorted once; then neighbours that are alike make a group, by one loop for both lists.
+
 ghost use Rattle.std.specs.Prelude.{◌≡◌, ◌++◌, map, zip, IfOk, OnOk};
 ghost use Rattle.index_writing.specs.LabelGroups.{entries_of, all_entries, is_lesser_entry, grouped, row_of_entry, have_same_label, join_series, rows_of, values_of_row, have_same_name, join_values, names_of};
 ghost use Rattle.label_sets.specs.Ordered.{in_order};
@@ -90,7 +93,7 @@ trait Group: Drop {
     /// The group of the members of two.
     ghost join: { Self → Self → Self };
 
-    /// Begins a group.
+    /// The group of one member, which its neighbours may join.
     fn of(alloc: Global, member: &Self::Member) -> Result<Self, NoMemory>
         ensures { IfOk result (λ group. group ≡ of member.now) };
 

@@ -1,3 +1,6 @@
+//! The sections of an index that are lists: symbols, postings, the postings table, and the label indices with their
+//! table. These last two no reader of this repository asks for; an index of Prometheus has them.
+
 ghost use Rattle.std.specs.Prelude.{◌≡◌, ◌++◌, ◌-◌, ◌<◌, ◌^◌, length, zip, List, ℕ, IfOk, OnOk, OnErr};
 ghost use Rattle.std.specs.Int.{w32, to_be_bytes};
 ghost use Rattle.std.specs.List.{All, AllByRecursion, flat_map};

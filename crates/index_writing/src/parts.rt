@@ -1,3 +1,6 @@
+//! What all sections behind the series are made of. A series' number is its place in the file, so the front of the
+//! index is written before the postings can be listed.
+
 ghost use Rattle.std.specs.Prelude.{◌≡◌, ◌++◌, [], map, length, IfOk, OnOk, List, ℕ};
 ghost use Rattle.std.specs.List.{AllByRecursion};
 ghost use Rattle.base.specs.Order.{ComesAfter};

@@ -1,3 +1,6 @@
+//! Where the sections of an index come to stand: a series at a multiple of sixteen bytes, a list at one of four. Each
+//! step refuses an index that is too long already, so that no more memory goes into it.
+
 ghost use Rattle.std.specs.Prelude.{◌≡◌, ◌++◌, ◌∷◌, ◌+◌, ◌-◌, ◌/◌, ◌%◌, ◌*◌, ◌<◌, ◌≤◌, ◌^◌, map, length, replicate, IfOk, OnOk, OnErr, IfErr, MatchResult, List, ℕ};
 ghost use Rattle.std.specs.List.{All, AllByRecursion, sum_by};
 ghost use Rattle.index_parts.specs.Turns.{InOrder};

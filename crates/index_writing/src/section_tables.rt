@@ -1,3 +1,6 @@
+//! The tables of an index, whose rows repeat texts. So how long a table becomes at least is counted while its rows are
+//! made, and one that no index has room for is refused before it is built.
+
 ghost use Rattle.std.specs.Prelude.{◌≡◌, ◌++◌, ◌∷◌, [], ◌+◌, ◌*◌, ◌<◌, ◌≤◌, ◌^◌, map, zip, length, IfOk, OnOk, OnErr, IfErr, MatchBool, List, ℕ, MatchResult};
 ghost use Rattle.std.specs.List.{sum_by};
 ghost use Rattle.base.specs.Order.{ComesAfter};

@@ -1,3 +1,6 @@
+//! The frame of each section: its length in front, and its sum behind. A section is appended whole or not at all, where
+//! memory is lacking.
+
 ghost use Rattle.std.specs.Prelude.{◌≡◌, ◌++◌, ◌<◌, ◌^◌, length, take, OnOk, OnErr, List, ℕ};
 ghost use Rattle.std.specs.Int.{w32, to_be_bytes};
 ghost use Rattle.std.specs.Str.{IsUtf8};

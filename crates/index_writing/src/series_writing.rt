@@ -1,3 +1,6 @@
+//! A series as it stands in an index: symbol numbers, and each chunk told from the one before it, which takes few
+//! bytes. The distance of two references has a sign, so a segment's number has to fit 31 bits.
+
 ghost use Rattle.std.specs.Prelude.{◌≡◌, ◌++◌, ◌+◌, ◌*◌, ◌<◌, ◌^◌, ◌≤ℤ◌, length, zip, slice_index, List, ℕ, pos, IfOk, OnOk, OnErr};
 ghost use Rattle.std.specs.List.{AllByRecursion, flat_map};
 ghost use Rattle.index_parts.specs.Turns.{InOrder};

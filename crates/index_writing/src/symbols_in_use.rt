@@ -1,3 +1,6 @@
+//! The symbols of an index: the texts that its labels use, each once. They are sorted where the series have them, and
+//! only those that differ are copied, since many series share few texts.
+
 ghost use Rattle.std.specs.Prelude.{◌≡◌, ◌++◌, ◌∷◌, [], map, List, ℕ, IfOk, OnOk, All};
 ghost use Rattle.std.specs.List.{dedup, AllByRecursion};
 ghost use Rattle.std.specs.Str.{bytes_eq, IsUtf8};

@@ -1,3 +1,6 @@
+//! What identifies a series. And under which labels a gateway shows it: with the external labels of its block, which go
+//! before its own, and without the replica labels, so that the series of replicas become one.
+
 ghost use Rattle.std.specs.Prelude.{◌≡◌, ◌<◌, ◌≤◌, ℕ, List, [], ◌∷◌, ◌++◌, if◌then◌else◌, length, take, slice_index_or, Some, None, MatchResult, IfOk, IfErr, IsErrAnd, ◌⊎◌, OnOk, OnErr};
 ghost use Rattle.std.specs.Option.{option_copied};
 ghost use Rattle.std.specs.List.{insert};

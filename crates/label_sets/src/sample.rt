@@ -1,3 +1,6 @@
+//! A sample as scripts and reports spell it. Its value is a pattern of 64 bits that nobody computes with, so that every
+//! NaN, and with it the marker of a series that went stale, comes out as it went in.
+
 ghost use Rattle.std.specs.Prelude.{◌≡◌, ◌≢◌, ◌↔◌, ◌<◌, ◌^◌, ℕ, ℤ, length, true, IsTrue, IfOk, Err, Ok};
 ghost use Rattle.std.specs.Char.{digit_value};
 ghost use Rattle.std.specs.Int.{w64};

@@ -1,3 +1,6 @@
+//! Samples under one label set: what a script's block is declared with, and what a query is answered with. Both are
+//! spelled alike.
+
 ghost use Rattle.std.specs.Prelude.{◌≡◌, ◌++◌, length, take, OnOk, OnErr};
 ghost use Rattle.std.specs.List.{flat_map};
 ghost use Rattle.label_sets.specs.Counts.{sample_count};

@@ -1,3 +1,6 @@
+//! Strings that cross crates, which contracts see as their bytes. They are in the order of the bytes, as Prometheus has
+//! the labels of a series and the symbols of an index, and a bucket its names.
+
 ghost use Rattle.std.specs.Prelude.{◌≡◌, List, ℕ, IfOk, nat_eq};
 ghost use Rattle.std.specs.String.{string_bytes};
 ghost use Rattle.std.specs.Cmp.{partial_equiv_from_equiv, partial_order_from_total};

@@ -97,6 +97,7 @@ cause_number cause.EmptyBlock = Some 9
 cause_number (cause.BadChunk series chunk why) = Some 10
 cause_number (cause.OutsideRange series time) = Some 11
 cause_number (cause.Repeated series) = Some 12
+cause_number cause.NamesTooMuch = Some 13
 cause_number cause.NoMemory = None
 
 -- The shelf has no such block, or its files do not pass, for a cause of this number.

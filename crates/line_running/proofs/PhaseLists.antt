@@ -19,7 +19,7 @@ use Rattle.report_lines.specs.lifecycle_core.proofs.phases.FirstPhases.{no_phase
 use Rattle.report_lines.specs.lifecycle_core.proofs.phases.NextSeats.{seats_behind, upto}
 use Rattle.report_lines.specs.lifecycle_core.proofs.phases.Turns.{none_turns, one_turns, turns_behind, unfinished_turns}
 use Rattle.report_lines.specs.lifecycle_core.proofs.phases.RunsInLine.{AreWhole, ends_by_workers, own_came, run_by, turns_by}
-use Rattle.report_lines.specs.script_running.specs.Outcomes.{PhasesCame}
+use Rattle.report_lines.specs.script_running.specs.Outcomes.{Outcome, PhasesCame}
 use Rattle.report_lines.specs.script_running.specs.Sights.{Sees, no_sight}
 use Rattle.report_lines.specs.script_running.specs.declared.sight.Sight.{Sight}
 use Rattle.line_running.specs.Progress.{HasRun, IsBrokenAt, IsDueInLine, IsShortAt, PhaseStep, PhasesDone, Reached, RunCame, TasksBroken, TasksDone, TasksTold, duties_at}
@@ -27,7 +27,6 @@ use Rattle.report_lines.specs.script_running.specs.Beside.{AreSeen}
 use Rattle.report_lines.specs.Telling.{tasks_of}
 use Rattle.report_lines.specs.script_running.specs.declared.came.Broken.{Broken}
 use Rattle.report_lines.specs.script_running.specs.declared.came.Broken.TheVariants as broken
-use Rattle.report_lines.specs.script_running.specs.declared.outcome.Outcome.{Outcome}
 use Rattle.report_lines.proofs.ReportLists.{tasks_append}
 use Rattle.line_running.proofs.Told.{tasks_came, told_length, told_outcomes}
 use Rattle.report_lines.specs.lifecycle_core.specs.Guarantees.{IsGuaranteedJournal}

@@ -27,14 +27,11 @@ use Rattle.report_lines.specs.lifecycle_core.specs.Tasks.{End, TaskRun}
 use Rattle.report_lines.specs.lifecycle_core.proofs.phases.Joined.{MayAllBegin, duties_begin, nothing}
 use Rattle.report_lines.specs.lifecycle_core.proofs.phases.RunsInLine.{may_begin}
 use Rattle.report_lines.specs.lifecycle_core.specs.Ways.{IsDueAfter}
-use Rattle.report_lines.specs.script_running.specs.Drives.{Came}
-use Rattle.report_lines.specs.script_running.specs.Outcomes.{IsOutcome, IsOutcomeOf, IsPart}
+use Rattle.report_lines.specs.script_running.specs.Outcomes.{IsOutcome, IsOutcomeOf, IsPart, Outcome, Part}
 use Rattle.report_lines.specs.script_running.specs.Sights.{Sees}
 use Rattle.report_lines.specs.script_running.specs.Tasks.{CameBy, Does, HasDone, WhenDone, WhenFull}
 use Rattle.report_lines.specs.script_running.specs.declared.came.Broken.{Broken}
 use Rattle.report_lines.specs.script_running.specs.declared.came.Broken.TheVariants as broken
-use Rattle.report_lines.specs.script_running.specs.declared.outcome.Outcome.{Outcome}
-use Rattle.report_lines.specs.script_running.specs.declared.part.Part.{Part}
 use Rattle.report_lines.specs.script_running.specs.declared.sight.Sight.{Sight}
 use Rattle.report_lines.specs.script_running.proofs.TaskSteps.{when_done}
 use Rattle.line_running.specs.Progress.{IsDueInLine, IsWhole, PartStep, TaskStep, duties_at}
@@ -47,7 +44,7 @@ done_by (Ok o) P Q f holds = f holds
 done_by (Err why) P Q f holds = tt
 
 -- a worker's part that it did from its seat
-pub part_step : (setting : Setting) (seat : Hand → ℕ) (own : ℕ) (place : ℕ) (task : Task) (hand : Hand) (views : Holdings) (gateways : List Sight) (old new : List Entry) (sight : Sight) (came : Came) → own ≡ seat hand
+pub part_step : (setting : Setting) (seat : Hand → ℕ) (own : ℕ) (place : ℕ) (task : Task) (hand : Hand) (views : Holdings) (gateways : List Sight) (old new : List Entry) (sight : Sight) (came : Result Part Broken) → own ≡ seat hand
     → (d : HasDone setting (who_does seat hand) place task.work (holding_of views (gateway_of hand)) own old new sight came) → WhenDone came (AreSeen (with_holding views (gateway_of hand) d.after) gateways) → PartStep setting seat place task hand views gateways old new came
 part_step setting seat own place task hand views gateways old new sight came same d shows = record {
   made = d.made;
@@ -61,7 +58,7 @@ part_step setting seat own place task hand views gateways old new sight came sam
   due = subst (λ (s : ℕ). WhenFull came (IsDueAfter (Does setting (who_does seat hand) place task.work (holding_of views (gateway_of hand))) s d.made)) same d.due;
 }
 
-pub alone_step : (setting : Setting) (seat : Hand → ℕ) (own : ℕ) (place number : ℕ) (task : Task) (hand : Hand) (views : Holdings) (gateways : List Sight) (old new : List Entry) (sight : Sight) (came : Came) → hand ≡ hands.Alone number → own ≡ seat hand
+pub alone_step : (setting : Setting) (seat : Hand → ℕ) (own : ℕ) (place number : ℕ) (task : Task) (hand : Hand) (views : Holdings) (gateways : List Sight) (old new : List Entry) (sight : Sight) (came : Result Part Broken) → hand ≡ hands.Alone number → own ≡ seat hand
     → HasDone setting (who_does seat (hands.Alone number)) place task.work nothing_held own old new sight came → AreSeen views gateways → PartStep setting seat place task hand views gateways old new came
 alone_step setting seat own place number task hand views gateways old new sight came is same d shows =
     subst (λ (h : Hand). PartStep setting seat place task h views gateways old new came) (sym is)
@@ -88,7 +85,7 @@ shows_at views number held gateways gateway place x false e shows is at =
 set_shows : (views : Holdings) (number : ℕ) (held : Holding) (gateways : List Sight) (gateway : Sight) → AreSeen views gateways → Sees held gateway → AreSeen (with_holding views (Some number) held) (set gateways number gateway)
 set_shows views number held gateways gateway shows is = λ place x at. shows_at views number held gateways gateway place x (place == number) refl shows is at
 
-pub gateway_step : (setting : Setting) (seat : Hand → ℕ) (own : ℕ) (place : ℕ) (task : Task) (hand : Hand) (views : Holdings) (gateways : List Sight) (old new : List Entry) (came : Came) (number : ℕ) (before gateway : Sight) → hand ≡ hands.Gateway number
+pub gateway_step : (setting : Setting) (seat : Hand → ℕ) (own : ℕ) (place : ℕ) (task : Task) (hand : Hand) (views : Holdings) (gateways : List Sight) (old new : List Entry) (came : Result Part Broken) (number : ℕ) (before gateway : Sight) → hand ≡ hands.Gateway number
     → own ≡ seat hand → slice_get gateways number ≡ Some before
     → ((held : Holding) → Sees held before → HasDone setting (who_does seat (hands.Gateway number)) place task.work held own old new gateway came)
     → AreSeen views gateways → PartStep setting seat place task hand views (set gateways number gateway) old new came
@@ -293,9 +290,9 @@ module _ (setting : Setting) (seat : Hand → ℕ) (place : ℕ) (task : Task) (
       all = AllZip-push (IsPart task.work) f.ends parts end one f.all by;
     }
 
-    pub part_more : (came : Came) (one : Part) (made : List Part) → came ≡ Ok one → made ≡ parts ++ one ∷ [] → PartStep setting seat place task hand f.after gateways mid new came → Front (number + 1) gateways old new made
+    pub part_more : (came : Result Part Broken) (one : Part) (made : List Part) → came ≡ Ok one → made ≡ parts ++ one ∷ [] → PartStep setting seat place task hand f.after gateways mid new came → Front (number + 1) gateways old new made
     part_more came one made ok is p =
-        let q = subst (λ (c : Came). PartStep setting seat place task hand f.after gateways mid new c) ok p in
+        let q = subst (λ (c : Result Part Broken). PartStep setting seat place task hand f.after gateways mid new c) ok p in
         subst (λ (l : List Part). Front (number + 1) gateways old new l) (sym is) (one_more one q q.end refl q.by)
 
     -- what an operation of the part leads to
@@ -319,9 +316,9 @@ module _ (setting : Setting) (seat : Hand → ℕ) (place : ℕ) (task : Task) (
     none_by (Some end) broken.Full by = absurd by
     none_by (Some end) broken.NoMemory by = absurd by
 
-    pub part_broken : (begin : MayAllBegin setting duties) (came : Came) (why : Broken) → came ≡ Err why → PartStep setting seat place task hand f.after gateways mid new came → TaskStep setting seat place task views gateways old new (Err why)
+    pub part_broken : (begin : MayAllBegin setting duties) (came : Result Part Broken) (why : Broken) → came ≡ Err why → PartStep setting seat place task hand f.after gateways mid new came → TaskStep setting seat place task views gateways old new (Err why)
     part_broken begin came why is p =
-        let q = subst (λ (c : Came). PartStep setting seat place task hand f.after gateways mid new c) is p in
+        let q = subst (λ (c : Result Part Broken). PartStep setting seat place task hand f.after gateways mid new c) is p in
         let last = with_holding f.after (gateway_of hand) q.after in
         let within : number < length duties = slice_get_within duties number (own_duty hand) at in
         record {

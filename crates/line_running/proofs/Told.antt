@@ -22,14 +22,13 @@ use Rattle.report_lines.specs.lifecycle_core.proofs.phases.Joined.{both, cut, du
 use Rattle.report_lines.specs.lifecycle_core.proofs.phases.RunsInLine.{may_begin}
 use Rattle.report_lines.specs.lifecycle_core.proofs.phases.TaskRuns.{MayBegin}
 use Rattle.std.proofs.lemmas.List.Elements.{All-drop}
-use Rattle.report_lines.specs.script_running.specs.Outcomes.{IsOutcome, TasksCame}
+use Rattle.report_lines.specs.script_running.specs.Outcomes.{IsOutcome, Outcome, TasksCame}
 use Rattle.report_lines.specs.script_running.specs.declared.sight.Sight.{Sight}
 use Rattle.line_running.specs.Progress.{IsDueInLine, TaskStep, TasksBroken, TasksDone, TasksTold, duties_at}
 use Rattle.report_lines.specs.script_running.specs.Beside.{AreSeen}
 use Rattle.line_running.proofs.Steps.{duties_long}
 use Rattle.report_lines.specs.script_running.specs.declared.came.Broken.{Broken}
 use Rattle.report_lines.specs.script_running.specs.declared.came.Broken.TheVariants as broken
-use Rattle.report_lines.specs.script_running.specs.declared.outcome.Outcome.{Outcome}
 
 -- one task more
 told_more : (setting : Setting) (place : ℕ) (tasks : List Task) (task : Task) (ends own : List End) (outcomes : List Outcome) (o : Outcome) → TasksTold setting place tasks ends outcomes

@@ -12,14 +12,12 @@ use Rattle.report_lines.specs.lifecycle_core.specs.Setting.{Setting}
 use Rattle.report_lines.specs.lifecycle_core.specs.Tasks.{End, TaskRun}
 use Rattle.report_lines.specs.lifecycle_core.specs.Ways.{AreInTurn, AreUnfinished, IsDue, IsDueAfter, IsOperationDue, PhasesRun}
 use Rattle.report_lines.specs.script_running.specs.Beside.{AreSeen}
-use Rattle.report_lines.specs.script_running.specs.Outcomes.{IsOutcome, PhasesTold}
+use Rattle.report_lines.specs.script_running.specs.Outcomes.{IsOutcome, Outcome, Part, PhasesTold}
 use Rattle.report_lines.specs.script_running.specs.Tasks.{CameBy, Does, WhenDone, WhenFull}
 use Rattle.report_lines.specs.script_running.specs.declared.sight.Sight.{Sight}
 use Rattle.report_lines.specs.Telling.{tasks_of}
 use Rattle.report_lines.specs.script_running.specs.declared.came.Broken.{Broken}
 use Rattle.report_lines.specs.script_running.specs.declared.came.Broken.TheVariants as broken
-use Rattle.report_lines.specs.script_running.specs.Drives.{Came}
-use Rattle.report_lines.specs.script_running.specs.declared.outcome.Outcome.{Outcome}
 
 -- ---- one task
 
@@ -28,7 +26,7 @@ abbrev pub duties_at : Setting → ℕ → List Task → List Duty
 duties_at setting place tasks = duties_from (gateway_count setting.script.gateways) place tasks
 
 -- a worker's part of the task at a place: its entries and what it came to
-pub record PartStep (setting : Setting) (seat : Hand → ℕ) (place : ℕ) (task : Task) (hand : Hand) (views : Holdings) (gateways : List Sight) (old new : List Entry) (came : Came) : Type 0 where
+pub record PartStep (setting : Setting) (seat : Hand → ℕ) (place : ℕ) (task : Task) (hand : Hand) (views : Holdings) (gateways : List Sight) (old new : List Entry) (came : Result Part Broken) : Type 0 where
   pub made : List Entry
   pub entries : new ≡ old ++ made
   pub seats : All (λ e. e.seat ≡ seat hand) made

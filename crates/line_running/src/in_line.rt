@@ -39,7 +39,7 @@ pub fn do_in_line<B: Bucket, R: PhaseReport + Drop>(
 
     // The hand was made over this world.
     ensures wanted { IsTrue result.2.wanted → result.0 ≡ Err Broken.NoMemory }
-    ensures keeps { KeepsRun B.faults B.quiet B.asked world false world
+    ensures keeps { KeepsRun B.told world false world
         result.2.opened.value result.2.wanted result.2.world }
 {
     let hand = LineHand::new(world);
@@ -49,7 +49,7 @@ pub fn do_in_line<B: Bucket, R: PhaseReport + Drop>(
     let Ok(mut progress) = Progress::new(alloc, script) else {
         return (Err(Broken::NoMemory), R::empty(alloc), hand);
     };
-    let means = Means::lend(script, shelf, texts.members());
+    let means = Means::lend(alloc, script, shelf, texts.members());
     let (came, hand) = run_phases(alloc, script, &means, &mut progress, hand);
     (came, progress.into_report(), hand)
 }

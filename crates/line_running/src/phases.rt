@@ -97,7 +97,7 @@ pub(crate) fn run_phases<B: Bucket, R: PhaseReport + Drop>(
     ensures full { result.0 ≡ Err Broken.Full → IsFull result.1.world.journal }
     ensures refused { result.1.refused ≡ is_full_came result.0 }
     ensures wanted { IsTrue result.1.wanted → result.0 ≡ Err Broken.NoMemory }
-    ensures keeps { KeepsRun B.faults B.quiet B.asked hand.opened.value hand.wanted hand.world
+    ensures keeps { KeepsRun B.told hand.opened.value hand.wanted hand.world
         result.1.opened.value result.1.wanted result.1.world }
     ensures came { RunCame R.tells (setting_by script.now means.now.shelf)
         progress.new.gateways.items result.1.world.journal progress.new.report result.0 }
@@ -136,7 +136,7 @@ fn run_phase<B: Bucket, R: PhaseReport + Drop>(
     ensures full { result.0 ≡ Err Broken.Full → IsFull result.1.world.journal }
     ensures refused { result.1.refused ≡ is_full_came result.0 }
     ensures wanted { IsTrue result.1.wanted → result.0 ≡ Err Broken.NoMemory }
-    ensures keeps { KeepsRun B.faults B.quiet B.asked hand.opened.value hand.wanted hand.world
+    ensures keeps { KeepsRun B.told hand.opened.value hand.wanted hand.world
         result.1.opened.value result.1.wanted result.1.world }
     ensures ready { length progress.new.gateways.items ≡ length script.now.gateways }
     ensures workers { result.0 ≡ Ok tt
@@ -176,7 +176,7 @@ fn begin_phase<B: Bucket>(phase: &Phase, hand: LineHand<B>) -> (Result<(), Broke
     ensures memory { result.0 ≡ Err Broken.NoMemory → ¬ IsFull result.1.world.journal }
     ensures refused { result.1.refused ≡ is_full_came result.0 }
     ensures wanted { IsTrue result.1.wanted → result.0 ≡ Err Broken.NoMemory }
-    ensures keeps { KeepsRun B.faults B.quiet B.asked hand.opened.value hand.wanted hand.world
+    ensures keeps { KeepsRun B.told hand.opened.value hand.wanted hand.world
         result.1.opened.value result.1.wanted result.1.world }
 {
     let mut hand = hand.at_seat(0);
@@ -207,7 +207,7 @@ fn run_tasks<B: Bucket, R: PhaseReport + Drop>(
     ensures full { result.0 ≡ Err Broken.Full → IsFull result.1.world.journal }
     ensures refused { result.1.refused ≡ is_full_came result.0 }
     ensures wanted { IsTrue result.1.wanted → result.0 ≡ Err Broken.NoMemory }
-    ensures keeps { KeepsRun B.faults B.quiet B.asked hand.opened.value hand.wanted hand.world
+    ensures keeps { KeepsRun B.told hand.opened.value hand.wanted hand.world
         result.1.opened.value result.1.wanted result.1.world }
     ensures came { (views : Holdings) → AreSeen views progress.old.gateways.items
         → MatchResult result.0
@@ -257,7 +257,7 @@ fn next_task<B: Bucket, R: PhaseReport + Drop>(
     ensures full { result.0 ≡ Err Broken.Full → IsFull result.1.world.journal }
     ensures refused { result.1.refused ≡ is_full_came result.0 }
     ensures wanted { IsTrue result.1.wanted → result.0 ≡ Err Broken.NoMemory }
-    ensures keeps { KeepsRun B.faults B.quiet B.asked hand.opened.value hand.wanted hand.world
+    ensures keeps { KeepsRun B.told hand.opened.value hand.wanted hand.world
         result.1.opened.value result.1.wanted result.1.world }
     ensures came { (views : Holdings) (start : List Entry)
         → TasksDone R.tells (setting_by script.now means.now.shelf) (seat_of seats.now.workers)

@@ -21,9 +21,7 @@ use crate::seats::Seats;
 use base::NoMemory;
 use bucket_core::Bucket;
 use querier::InTurn;
-use report_lines::script_running::{
-    Broken, Came, Means, Outcome, Part, Sight, outcome_of, run_task,
-};
+use report_lines::script_running::{Broken, Means, Outcome, Part, Sight, outcome_of, run_task};
 use run_notes::LineHand;
 use script_core::{Hand, Task, Work};
 use std::alloc::Global;
@@ -47,7 +45,7 @@ pub(crate) fn do_task<B: Bucket, R: Drop>(
     ensures full { result.0 ≡ Err Broken.Full → IsFull result.1.world.journal }
     ensures refused { result.1.refused ≡ is_full_came result.0 }
     ensures wanted { IsTrue result.1.wanted → result.0 ≡ Err Broken.NoMemory }
-    ensures keeps { KeepsRun B.faults B.quiet B.asked hand.opened.value hand.wanted hand.world
+    ensures keeps { KeepsRun B.told hand.opened.value hand.wanted hand.world
         result.1.opened.value result.1.wanted result.1.world }
     ensures step { (views : Holdings) → AreSeen views progress.old.gateways.items
         → TaskStep (setting_in means.now)
@@ -64,7 +62,7 @@ pub(crate) fn do_task<B: Bucket, R: Drop>(
     let mut hand = hand;
     for number in 0..count {
         let who = hand_at(&task.work, place, number);
-        let (came, next) = do_part(alloc, means, task, place, who, seats, progress, hand);
+        let (came, next) = do_part(means, task, place, who, seats, progress, hand);
         hand = next;
         match came {
             Ok(part) => parts.push_reserved(part),
@@ -107,7 +105,6 @@ fn hand_at(work: &Work, place: usize, number: usize) -> Hand
 
 /// Does one worker's part of a task.
 fn do_part<B: Bucket, R: Drop>(
-    alloc: Global,
     means: &Means<'_>,
     task: &Task,
     place: usize,
@@ -115,7 +112,7 @@ fn do_part<B: Bucket, R: Drop>(
     seats: &Seats,
     progress: &mut Progress<R>,
     hand: LineHand<B>,
-) -> (Came, LineHand<B>)
+) -> (Result<Part, Broken>, LineHand<B>)
     requires work { Allows means.now.script task.now.work }
     requires ready { length progress.old.gateways.items ≡ length means.now.script.gateways }
     requires unrefused { hand.refused ≡ false }
@@ -125,7 +122,7 @@ fn do_part<B: Bucket, R: Drop>(
     ensures full { result.0 ≡ Err Broken.Full → IsFull result.1.world.journal }
     ensures refused { result.1.refused ≡ is_full_came result.0 }
     ensures wanted { IsTrue result.1.wanted → result.0 ≡ Err Broken.NoMemory }
-    ensures keeps { KeepsRun B.faults B.quiet B.asked hand.opened.value hand.wanted hand.world
+    ensures keeps { KeepsRun B.told hand.opened.value hand.wanted hand.world
         result.1.opened.value result.1.wanted result.1.world }
     ensures step { (views : Holdings) → AreSeen views progress.old.gateways.items
         → PartStep (setting_in means.now)
@@ -139,14 +136,14 @@ fn do_part<B: Bucket, R: Drop>(
     match who {
         Hand::Alone(_) => {
             let mut unseen = Sight::new();
-            let done = do_over(alloc, means, None, &task.work, &mut unseen, hand, seat);
+            let done = do_over(means, None, &task.work, &mut unseen, hand, seat);
             drop(unseen);
             done
         }
         Hand::Gateway(number) => {
             let gateway = &mut progress.gateways[number as usize];
             let own = Some(number);
-            do_over(alloc, means, own, &task.work, gateway, hand, seat)
+            do_over(means, own, &task.work, gateway, hand, seat)
         }
     }
 }
@@ -165,23 +162,21 @@ fn gathered_outcome(alloc: Global, parts: Vec<Part>) -> Result<Outcome, Broken>
 }
 
 /// Does a task from a worker's seat.
-#[tactic(auto, using(crate::proofs::Keeping::kept_at))]
 fn do_over<B: Bucket>(
-    alloc: Global,
     means: &Means<'_>,
     gateway: Option<u32>,
     work: &Work,
     sight: &mut Sight,
     hand: LineHand<B>,
     seat: u32,
-) -> (Came, LineHand<B>)
+) -> (Result<Part, Broken>, LineHand<B>)
     requires work { Allows means.now.script work.now }
     requires unrefused { hand.refused ≡ false }
     requires unwanted { hand.wanted ≡ false }
     ensures full { result.0 ≡ Err Broken.Full → IsFull result.1.world.journal }
     ensures refused { result.1.refused ≡ is_full_came result.0 }
     ensures wanted { IsTrue result.1.wanted → result.0 ≡ Err Broken.NoMemory }
-    ensures keeps { KeepsRun B.faults B.quiet B.asked hand.opened.value hand.wanted hand.world
+    ensures keeps { KeepsRun B.told hand.opened.value hand.wanted hand.world
         result.1.opened.value result.1.wanted result.1.world }
     ensures done { (who : Who) (place : ℕ) (held : Holding) → who.gateway ≡ gateway
         → Sees held sight.old
@@ -189,6 +184,6 @@ fn do_over<B: Bucket>(
         hand.world.journal result.1.world.journal sight.new result.0 }
 {
     let mut hand = hand.at_seat(seat);
-    let came = run_task(alloc, means, gateway, work, sight, &mut hand);
+    let came = run_task(means, gateway, work, sight, &mut hand);
     (came, hand)
 }

@@ -8,4 +8,5 @@ pub mod Stops
 pub mod ReadTexts
 pub mod Refused
 pub mod OneCause
+pub mod FewMatchers
 pub mod Built

@@ -1,8 +1,8 @@
 -- The texts of selectors, apart from how one is read. A selector is a metric name, or matchers in braces, or the one and then
 -- the other. A matcher is a name, an operator and a value in quotes. A comma stands between matchers, and one may stand
 -- after the last.
-use Rattle.std.specs.Prelude.{◌≡◌, ◌⊎◌, ℕ, List, [], ◌∷◌, ◌++◌, map, Bool, true, All, IsTrue, codes}
-use Rattle.std.specs.List.{filter, flat_map, list_all}
+use Rattle.std.specs.Prelude.{◌≡◌, ◌⊎◌, ℕ, ◌*◌, ◌≤◌, List, [], ◌∷◌, ◌++◌, length, map, Bool, true, All, IsTrue, codes}
+use Rattle.std.specs.List.{AllByRecursion, filter, flat_map, list_all}
 use Rattle.label_sets.specs.Characters.{double_quote, comma, open_brace, close_brace}
 use Rattle.label_sets.specs.Finals.{is_among}
 use Rattle.label_sets.specs.Notation.{is_name, quoted}
@@ -98,3 +98,8 @@ abbrev pub IsSimpleText : List ℕ → List Matcher → Type 0
 IsSimpleText text selector =
     ((text ≡ codes "{}") × (selector ≡ []))
     ⊎ (IsTrue (is_metric_name text) × (selector ≡ metric_matcher text ∷ []))
+
+-- There are no more matchers than so many, and none has a longer text, but that the name of a metric's matcher is told by one
+-- byte at least.
+abbrev pub AreFew : ℕ → List Matcher → Type 0
+AreFew most selector = (length selector ≤ most) × AllByRecursion (λ m. (length m.name ≤ 8 * most) × (length (asked_by m.condition) ≤ most)) selector

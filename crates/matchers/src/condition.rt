@@ -1,3 +1,6 @@
+//! What a matcher asks of a label's value. A series without the label counts as one with the empty value, as in
+//! Prometheus, so a condition that accepts the empty text takes it too.
+
 ghost use Rattle.std.specs.Prelude.{◌≡◌, IfOk, IsOk, false};
 ghost use Rattle.matchers.specs.Selectors.{has_pattern, is_accepted};
 ghost use Rattle.matchers.specs.ConditionSearches.{condition_asked};

@@ -1,3 +1,6 @@
+//! Regular expressions of `=~` and `!~`, which have to match the whole value. Which texts are lawful, and what one
+//! matches, is what `regex` says; it is not defined anew here.
+
 ghost use Rattle.std.specs.Prelude.{◌≡◌, ◌++◌, List, ℕ, Err, IfOk, OnOk, true, false, codes};
 ghost use Rattle.std.specs.String.{string_bytes};
 ghost use Rattle.regex.specs.Strings.{regex_pattern};

@@ -1,8 +1,11 @@
-ghost use Rattle.std.specs.Prelude.{◌≡◌, ◌⊎◌, List, IsTrue, IsOk, IfOk, IfErr, IsErrAnd, MatchResult};
+//! What a query asks of label sets. It keeps its text, since patterns that were built do not cross threads: a worker
+//! reads the text again. A replica label may not be named, as series lose it before they are shown.
+
+ghost use Rattle.std.specs.Prelude.{◌≡◌, ◌⊎◌, List, length, IsTrue, IsOk, IfOk, IfErr, IsErrAnd, MatchResult};
 ghost use Rattle.matchers.specs.declared.matcher.Matcher.{Matcher};
 ghost use Rattle.matchers.specs.declared.selector_refusal.SelectorRefusal.{SelectorRefusal};
 ghost use Rattle.matchers.specs.SelectorRefusals.{IsReadable, IsGivenUp, IsRefused};
-ghost use Rattle.matchers.specs.SelectorText.{IsSelectorText};
+ghost use Rattle.matchers.specs.SelectorText.{IsSelectorText, AreFew};
 ghost use Rattle.matchers.specs.Selectors.{is_match, is_plain};
 
 use crate::building::build;
@@ -46,6 +49,9 @@ impl Selector {
         // Each such text is read, unless memory or the size of a pattern forbids it.
         ensures only { (selector : List Matcher) → IsReadable text.now replicas.now selector
             → MatchResult result (λ read. read ≡ selector) (λ e. IsGivenUp text.now e) }
+
+        // There are no more matchers than the text has bytes, and no texts that are much longer.
+        ensures few { IfOk result (AreFew (length text.now)) }
 
         // Which refusal it is.
         ensures refused { IfErr result (λ e. IsGivenUp text.now e

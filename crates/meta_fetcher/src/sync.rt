@@ -1,3 +1,7 @@
+//! The machine of a sync, which gives a gateway its view (Thanos: meta fetcher). The mark of a block is read before its
+//! meta: as cleanings delete the meta first, no block is taken for unmarked of which a cleaning has just deleted the
+//! mark.
+
 ghost use Rattle.std.specs.Prelude.{◌≡◌, ◌+◌, ◌*◌, ◌≤◌, ℕ, List, [], length, map, Option, Some, IfOk, IsSomeAnd};
 ghost use Rattle.std.specs.List.Sorted.{IsStrictlyIncreasing};
 ghost use Rattle.world_core.specs.Machines.{GoesOn, Falls};
@@ -77,7 +81,7 @@ impl Sync {
     ghost use Rattle.meta_fetcher.specs.Sightings.{IsView, sighting_of};
     ghost use Rattle.meta_fetcher.specs.SyncStates.{asked_sync, count_at, count_of, Goes, Leads, course_of, blocks_left, meta_left, goes_by_names, goes_after};
 
-    /// Begins a sync.
+    /// A sync by these rules, which has asked for nothing yet.
     pub fn start(alloc: Global, rules: SyncRules) -> Result<Sync, NoMemory>
         requires { 1 ≤ rules.page_limit }
         ensures begun { IfOk result ⟦<Sync as Machine>⟧.fresh }

@@ -1,3 +1,6 @@
+//! The times of a run's clock, in milliseconds since 1970. A timestamp with a part below a millisecond is refused, as
+//! no moment is equal to it.
+
 ghost use Rattle.std.specs.Prelude.{◌≡◌, ◌↔◌, ℕ, IfOk, IfErr, IsErr, IsOkAnd};
 ghost use Rattle.std.specs.Option.{option_map};
 ghost use Rattle.std.specs.Result.{result_ok};

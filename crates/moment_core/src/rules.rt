@@ -1,3 +1,6 @@
+//! The delays by which programs over one bucket keep out of each other's way without talking to one another: how long a
+//! block is waited for, and how old a mark has to be before the block is passed over and before it is deleted.
+
 ghost use Rattle.std.specs.Prelude.{◌≡◌};
 
 use crate::{HOUR, MINUTE, Span};

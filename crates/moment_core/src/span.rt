@@ -1,3 +1,6 @@
+//! Lengths of time as the rules of a script have them: one number and one unit, such as `30m` or `48h`, and no sum of
+//! several.
+
 ghost use Rattle.std.specs.Prelude.{◌≡◌, ◌≤◌, ◌↔◌, ℕ, IfOk, IsErr, IsOkAnd, length};
 ghost use Rattle.std.specs.List.{position, position_or_len};
 ghost use Rattle.std.specs.Option.{option_map};

@@ -4,4 +4,8 @@ pub mod Taking
 pub mod Ready
 pub mod Joined
 pub mod Refused
-pub mod Parts
+pub mod Looking
+pub mod Blocks
+pub mod Rounds
+pub mod Dealt
+pub mod Sharing

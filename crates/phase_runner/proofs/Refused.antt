@@ -8,7 +8,8 @@ use Rattle.world_core.specs.declared.entry.Entry.{Entry}
 use Rattle.world_core.specs.declared.op.Op.{Op}
 use Rattle.world_core.specs.declared.act.Acted.{Acted}
 use Rattle.world_core.specs.declared.act.Acted.TheVariants.{Done, Full, NoMemory}
-use Rattle.world_turn.specs.Turns.{Acts, front_after, is_wanting}
+use Rattle.world_core.specs.Machines.{is_wanting}
+use Rattle.world_turn.specs.Turns.{Acts, front_after}
 use Rattle.world_turn.specs.declared.view.View.{View}
 
 pub front_full : (v : View) (op : Op) (acted : Acted) (w : View) → Acts v op acted w → acted ≡ Full → IsFull w.front

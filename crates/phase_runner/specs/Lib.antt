@@ -1,5 +1,6 @@
 pub mod Hands
 pub mod Works
+pub mod Dealing
 pub mod Shares
 pub mod Phases
 pub use Rattle.world_core.specs.Operations

@@ -75,15 +75,14 @@ impl<'a, B: Bucket, G: Gate, R: Wait> Hand for TurnHand<'a, B, G, R> {
     ghost use Rattle.std.specs.Prelude.{Some};
     ghost use Rattle.phase_runner.specs.Hands.{GoesOn, goes_on-none, goes_on-more};
 
-    ghost entries = { λ hand. hand.view.own };
-
-    ghost seat = { λ hand. hand.seat };
-
-    ghost front = { λ hand. Some hand.view.front };
-
-    ghost refused = { λ hand. hand.view.refused };
-
-    ghost wanted = { λ hand. hand.view.wanted };
+    ghost told = { λ hand. record {
+      entries = hand.view.own;
+      seat = hand.seat;
+      front = Some hand.view.front;
+      known = hand.view.known;
+      refused = hand.view.refused;
+      wanted = hand.view.wanted;
+    } };
 
     ghost keeps = { GoesOn };
 
@@ -100,6 +99,16 @@ impl<'a, B: Bucket, G: Gate, R: Wait> Hand for TurnHand<'a, B, G, R> {
         self.number = number_after(self.number, &acted);
         self.pass = Some(pass);
         acted
+    }
+
+    /// It asks no gate and waits for nobody.
+    fn look(&mut self) -> u64 {
+        let Some(pass) = self.pass.take() else {
+            unreachable!()
+        };
+        let (count, pass) = self.shared.look(pass);
+        self.pass = Some(pass);
+        count
     }
 }
 

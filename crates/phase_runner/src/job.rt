@@ -1,4 +1,5 @@
-ghost use Rattle.std.specs.Prelude.{◌≡◌, ◌⊎◌, ◌++◌, ◌||◌, IsTrue, List};
+ghost use Rattle.std.specs.Prelude.{◌≡◌, ◌++◌, List};
+ghost use Rattle.world_core.specs.Turning.{Turned};
 ghost use Rattle.world_core.specs.declared.entry.Entry.{Entry};
 
 use world_core::Hand;
@@ -26,11 +27,8 @@ pub trait Job {
 
     /// Does the job through a hand.
     fn run<H: Hand>(self, hand: &mut H) -> Self::End
-        ensures run { (made : List Entry) × (H.entries hand.new ≡ H.entries hand.old ++ made)
-            × may self (H.seat hand.old) made (H.front hand.new) result }
-        ensures seat { H.seat hand.new ≡ H.seat hand.old }
-        ensures refused { H.refused hand.new ≡ (H.refused hand.old || met_full result) }
-        ensures wanted { IsTrue (H.wanted hand.new)
-            → IsTrue (H.wanted hand.old) ⊎ IsTrue (wanted result) }
-        ensures keeps { H.keeps hand.old hand.new };
+        ensures run { (made : List Entry)
+            × ((H.told hand.new).entries ≡ (H.told hand.old).entries ++ made)
+            × may self (H.told hand.old).seat made (H.told hand.new).front result }
+        ensures hand { Turned H.told H.keeps hand.old hand.new (met_full result) (wanted result) };
 }

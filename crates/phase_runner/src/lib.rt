@@ -1,6 +1,7 @@
 //! The workers of one phase, beside each other in threads, over one shared world.
 #![tactic(auto)]
 
+mod dealing;
 mod gate;
 mod hand;
 mod job;

@@ -30,7 +30,8 @@ pub struct PhaseEnd<E> {
 /// Does jobs beside each other, each with a pass of its own, in at most as many threads as there are processors. On one processor these
 /// are two, and on many never more than 16. A phase of light jobs has at most three, on one processor too.
 ///
-/// Of more jobs than threads, some are done one after another by one thread.
+/// Of more jobs than threads, some are done one after another by one thread. They are dealt out in turn, so that neighbours are done by
+/// different threads.
 ///
 /// It takes all its memory before the first job begins. A job that wants memory says so in its own end.
 pub fn run_phase<B: Bucket + Send, J: Job + Drop + Send, G: Gate + Sync, R: Threads + Wait + Sync>(

@@ -1,16 +1,18 @@
-//! Work on the places of a list, shared out among threads that the caller makes one after another.
+//! Work on the places of a list, dealt out in turn to threads that the caller makes one after another.
 //!
 //! Where new threads make others, these mostly begin on their makers' processors, and wait there while another processor is idle.
-ghost use Rattle.std.specs.Prelude.{◌≡◌, ℕ, ◌+◌, ◌^◌, ◌<◌, length};
+ghost use Rattle.std.specs.Prelude.{◌≡◌, ℕ, ◌+◌, ◌*◌, ◌-◌, ◌^◌, ◌<◌, ◌≤◌, length};
 ghost use Rattle.std.specs.Fork.{AcceptsAt, ChangesAt, AcceptsEach, ChangesEach};
-ghost use Rattle.phase_runner.specs.Shares.{AcceptsFrom, ChangesFrom};
+ghost use Rattle.phase_runner.specs.Shares.{AcceptsStride, ChangesStride, AcceptsDealt, ChangesDealt};
 ghost use denote.Param.Send.{IsSync, IsSend};
 
+use crate::dealing::{put_back, take_first};
 use std::thread;
 use std::thread::{Threads, join_mut};
 
-/// Calls f(i, &mut s[i]) at each place, in at most so many threads, and in no more than there are places. The caller makes all
-/// other threads, and does the last share.
+/// Calls f(i, &mut s[i]) at each place, in at most so many threads, and in no more than there are places. The places are dealt out
+/// in turn, so that neighbours are done by different threads, where there are several. The caller makes all other threads, and does
+/// the last share.
 pub fn for_each_beside<R: Threads + Sync, T: Send, F: Fn(usize, &mut T) + Sync>(
     rt: &R,
     s: &mut [T],
@@ -24,69 +26,65 @@ pub fn for_each_beside<R: Threads + Sync, T: Send, F: Fn(usize, &mut T) + Sync>(
     shares_from(rt, f, 0, threads.min(s.len().max(1)), s);
 }
 
-/// Calls `f` at each place of a part that stands at `base` among all places, in at most so many threads.
+/// The same for the places of the takers from `first` on. So many takers are dealt to in each round.
 #[cycle(shares)]
 fn shares_from<R: Threads + Sync, T: Send, F: Fn(usize, &mut T) + Sync>(
     rt: &R,
     f: &F,
-    base: usize,
-    threads: usize,
+    first: usize,
+    takers: usize,
     s: &mut [T],
 )
-    requires threads { 0 < threads }
-    requires room { base + length s.old < 2 ^ 64 }
-    requires accepts { AcceptsFrom F.Fn f.now base s.old }
-    ensures { ChangesFrom F.Fn f.now base s.old s.new }
+    requires takers { first < takers }
+    requires accepts { AcceptsDealt F.Fn f.now takers first s.old }
+    ensures { ChangesDealt F.Fn f.now takers first s.old s.new }
 {
-    if threads == 1 {
-        in_turn(s, base, f);
+    let left = takers - first;
+    if left == 1 {
+        in_turn(s, first, takers, f);
         return;
     }
-    let share = s.len() / threads;
-    let (first, rest) = s.split_at_mut(share);
-    both_shares(rt, f, base, first, base + share, threads - 1, rest);
+    let count = take_first(s, left);
+    let (own, rest) = s.split_at_mut(count);
+    both_shares(rt, f, first, takers, own, rest);
+    put_back(s, left, count);
 }
 
-/// Does the first share in a new thread, and the rest as `shares_from` does.
+/// Does the places of one taker in a new thread, and those of the others as `shares_from` does.
 #[cycle(shares)]
 fn both_shares<R: Threads + Sync, T: Send, F: Fn(usize, &mut T) + Sync>(
     rt: &R,
     f: &F,
-    base: usize,
-    first: &mut [T],
-    up: usize,
-    threads: usize,
+    first: usize,
+    takers: usize,
+    own: &mut [T],
     rest: &mut [T],
 )
-    requires threads { 0 < threads }
-    requires room { base + length first.old < 2 ^ 64 }
-    requires more_room { up + length rest.old < 2 ^ 64 }
-    requires front { AcceptsFrom F.Fn f.now base first.old }
-    requires back { AcceptsFrom F.Fn f.now up rest.old }
-    ensures front { ChangesFrom F.Fn f.now base first.old first.new }
-    ensures back { ChangesFrom F.Fn f.now up rest.old rest.new }
+    requires takers { first + 1 < takers }
+    requires own { AcceptsStride F.Fn f.now first takers own.old }
+    requires rest { AcceptsDealt F.Fn f.now takers (first + 1) rest.old }
+    ensures own { ChangesStride F.Fn f.now first takers own.old own.new }
+    ensures rest { ChangesDealt F.Fn f.now takers (first + 1) rest.old rest.new }
 {
     let mut front = ||
-        requires { IsSync F.row × IsSend T.row × (base + length first.now < 2 ^ 64)
-            × AcceptsFrom F.Fn f.now base first.now }
-        ensures { ChangesFrom F.Fn f.entry.now base first.entry.now first.exit.now }
-    { in_turn(first, base, f) };
+        requires { IsSync F.row × IsSend T.row × AcceptsStride F.Fn f.now first takers own.now }
+        ensures { ChangesStride F.Fn f.entry.now first takers own.entry.now own.exit.now }
+    { in_turn(own, first, takers, f) };
     let mut back = ||
-        requires { IsSync R.row × IsSync F.row × IsSend T.row × (0 < threads)
-            × (up + length rest.now < 2 ^ 64) × AcceptsFrom F.Fn f.now up rest.now }
-        ensures { ChangesFrom F.Fn f.entry.now up rest.entry.now rest.exit.now }
-    { shares_from(rt, f, up, threads, rest) };
+        requires { IsSync R.row × IsSync F.row × IsSend T.row × (first + 1 < takers)
+            × (takers < 2 ^ 64) × AcceptsDealt F.Fn f.now takers (first + 1) rest.now }
+        ensures { ChangesDealt F.Fn f.entry.now takers (first + 1) rest.entry.now rest.exit.now }
+    { shares_from(rt, f, first + 1, takers, rest) };
     join_mut(rt, &mut front, &mut back);
 }
 
-/// Calls f at one place after another.
-fn in_turn<T, F: Fn(usize, &mut T)>(s: &mut [T], base: usize, f: &F)
-    requires room { base + length s.old < 2 ^ 64 }
-    requires accepts { AcceptsFrom F.Fn f.now base s.old }
-    ensures { ChangesFrom F.Fn f.now base s.old s.new }
+/// Calls f at one place after another, of which each is by so many greater than the one before.
+fn in_turn<T, F: Fn(usize, &mut T)>(s: &mut [T], first: usize, step: usize, f: &F)
+    requires { AcceptsStride F.Fn f.now first step s.old }
+    ensures { ChangesStride F.Fn f.now first step s.old s.new }
 {
     for k in 0..s.len() {
-        at_one(f, base + k, &mut s[k]);
+        at_one(f, first + k * step, &mut s[k]);
     }
 }
 

@@ -84,7 +84,7 @@ fn are_light<J: Job>(works: &[Work<J>]) -> bool {
 }
 
 /// Does all jobs beside each other, in at most as many threads as `threads_for` says. Of more jobs than threads, some are done one after
-/// another by one thread.
+/// another by one thread, but neighbours by different ones.
 pub(crate) fn run_all<
     B: Bucket + Send,
     J: Job + Drop + Send,

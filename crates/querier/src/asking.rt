@@ -1,3 +1,6 @@
+//! Which gateways a query asks, and for which times: a gateway answers for its partition, so that each sample is asked
+//! for where it may be, and gateways without such times are left alone.
+
 ghost use Rattle.std.specs.Prelude.{◌≡◌, ◌<◌, ◌≤◌, ◌^◌, [], ◌∷◌, ◌++◌, length, IfOk, OnOk};
 ghost use Rattle.querier.specs.Asks.{asks_from, asks_of};
 

@@ -1,3 +1,6 @@
+//! The one answer to a query that several gateways make. Gateways with the same blocks answer alike, so answers that
+//! repeat the one before are found first, and only the others are merged.
+
 ghost use Rattle.std.specs.Prelude.{◌≡◌, [], ◌∷◌, ◌++◌, IfOk, OnOk, OnErr};
 ghost use Rattle.label_sets.specs.Triples.{triples_of};
 ghost use Rattle.vertical_merge.specs.Merged.{IsMerge, IsDeduplication};

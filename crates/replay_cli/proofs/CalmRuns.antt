@@ -1,5 +1,5 @@
 -- Where every task has ended well, every outcome is as asked.
-use Rattle.std.proofs.Common.{◌≡◌, inl, inr, ℕ, ◌+◌, Bool, true, List, [], ◌∷◌, Contains, Option, refl, ◌∙◌, ap, subst, None, map, sym}
+use Rattle.std.proofs.Common.{◌≡◌, inl, inr, ℕ, ◌+◌, Bool, true, false, List, [], ◌∷◌, Contains, Option, refl, ◌∙◌, ap, subst, None, map, sym}
 use Rattle.std.specs.List.{AllZip, list_all, AllByRecursion}
 use Rattle.std.proofs.lemmas.List.Folds.{list_all-append}
 use Rattle.std.proofs.lemmas.Bool.{and_from}
@@ -21,6 +21,7 @@ use Rattle.script_workers.specs.declared.hand.Hand.{Hand}
 use Rattle.script_workers.specs.declared.phase.Phase.{Phase}
 use Rattle.script_core.specs.declared.script.Script.{Script}
 use Rattle.script_workers.specs.declared.task.Task.{Task}
+use Rattle.script_workers.specs.Works.{asks_all}
 use Rattle.script_workers.specs.declared.work.Work.{Work}
 use Rattle.script_workers.specs.declared.work.Work.TheVariants as work
 use Rattle.script_workers.specs.declared.worker.Worker.{Worker}
@@ -32,22 +33,16 @@ use Rattle.call_verdicts.specs.lifecycle_core.specs.Tasks.{End, answered, cleane
 use Rattle.call_verdicts.specs.lifecycle_core.proofs.phases.Turns.{finished_in_turn}
 use Rattle.base.proofs.Membership.{contains_first, contains_later, member_cases, no_member}
 use Rattle.base.proofs.Pairs.{second_in_zip}
-use Rattle.call_verdicts.specs.script_running.specs.Outcomes.{IsOutcome, IsOutcomeOf, IsPart, IsQueryOutcome, PhasesCame, TasksCame, call_part, clean_outcome, compact_outcome, first_none, sync_outcome, upload_outcome, why_none}
-use Rattle.call_verdicts.specs.script_running.specs.Outcomes.{is_as_asked}
+use Rattle.call_verdicts.specs.script_running.specs.Outcomes.{IsOutcome, IsOutcomeOf, IsPart, IsQueryOutcome, IsWhole, Outcome, OutcomeBy, Part, PhasesCame, TasksCame, call_part, first_none, is_as_asked, sync_outcome, why_none}
 use Rattle.call_verdicts.specs.Shippable.{IsTooGreat, RefusesNone, StaysWithin}
 use Rattle.call_verdicts.specs.Verdicts.{IsTrusted, IsWholeRun}
 use Rattle.replay_cli.proofs.Refusals.{none_refused}
-use Rattle.call_verdicts.specs.script_running.specs.declared.outcome.Outcome.{Outcome}
-use Rattle.call_verdicts.specs.script_running.specs.declared.outcome.Outcome.TheVariants as outcome
-use Rattle.call_verdicts.specs.script_running.specs.declared.outcome.CompactOutcome.TheVariants as compact
-use Rattle.call_verdicts.specs.script_running.specs.declared.outcome.CleanOutcome.TheVariants as clean
+use Rattle.call_verdicts.specs.script_running.specs.declared.came.Came.TheVariants as came_to
+use Rattle.call_verdicts.specs.script_running.specs.declared.came.Stop.TheVariants as halt
 use Rattle.call_verdicts.specs.script_running.specs.declared.outcome.QueryOutcome.{QueryOutcome}
 use Rattle.call_verdicts.specs.script_running.specs.declared.outcome.QueryOutcome.TheVariants as query
-use Rattle.call_verdicts.specs.script_running.specs.declared.outcome.UploadOutcome.TheVariants as upload
-use Rattle.call_verdicts.specs.script_running.specs.declared.part.Part.{Part}
-use Rattle.call_verdicts.specs.script_running.specs.declared.part.Part.TheVariants as part
-use Rattle.call_verdicts.specs.script_running.specs.declared.part.QueryPart.{QueryPart}
-use Rattle.call_verdicts.specs.script_running.specs.declared.part.QueryPart.TheVariants as given
+use Rattle.call_verdicts.specs.script_running.specs.declared.outcome.QueryPart.{QueryPart}
+use Rattle.call_verdicts.specs.script_running.specs.declared.outcome.QueryPart.TheVariants as given
 
 -- ---- one task
 
@@ -55,18 +50,18 @@ use Rattle.call_verdicts.specs.script_running.specs.declared.part.QueryPart.TheV
 abbrev Calm : End → Type 0
 Calm end = IsWell end × ((cause : ℕ) → ¬ (end ≡ refused cause)) × (¬ IsTooGreat end)
 
-upload_asked : (end : UploadEnd) → IsWell (uploaded end) → is_as_asked (outcome.Upload (upload_outcome end)) ≡ true
+upload_asked : (end : UploadEnd) → IsWell (uploaded end) → is_as_asked (came_to.Upload (halt.Ended end)) ≡ true
 upload_asked (shipped.Done count) well = refl
 upload_asked shipped.Already well = refl
 upload_asked (shipped.Fault entry) well = absurd well
 
-sync_asked : (end : SyncEnd) → IsWell (synced end) → is_as_asked (outcome.Sync (sync_outcome end)) ≡ true
+sync_asked : (end : SyncEnd) → IsWell (synced end) → is_as_asked (came_to.Sync (sync_outcome end)) ≡ true
 sync_asked (fetched.View view) well = refl
 sync_asked (fetched.Fault entry) well = absurd well
 sync_asked (fetched.Damaged entry) well = absurd well
 sync_asked fetched.TooMany well = absurd well
 
-compact_asked : (end : CompactEnd) → IsWell (compacted end) → ¬ IsTooGreat (compacted end) → is_as_asked (outcome.Compact (compact_outcome end)) ≡ true
+compact_asked : (end : CompactEnd) → IsWell (compacted end) → ¬ IsTooGreat (compacted end) → is_as_asked (came_to.Compact (halt.Ended end)) ≡ true
 compact_asked (merged.Done collected groups expired) well fits = refl
 compact_asked (merged.Fault entry) well fits = absurd well
 compact_asked (merged.Missing entry) well fits = absurd well
@@ -74,7 +69,7 @@ compact_asked (merged.Damaged entry) well fits = absurd well
 compact_asked merged.TooMany well fits = absurd well
 compact_asked merged.TooLarge well fits = absurd (fits tt)
 
-clean_asked : (end : CleanEnd) → IsWell (cleaned end) → ¬ IsTooGreat (cleaned end) → is_as_asked (outcome.Clean (clean_outcome end)) ≡ true
+clean_asked : (end : CleanEnd) → IsWell (cleaned end) → ¬ IsTooGreat (cleaned end) → is_as_asked (came_to.Clean (halt.Ended end)) ≡ true
 clean_asked (swept.Done blocks partials) well fits = refl
 clean_asked (swept.Fault entry) well fits = absurd well
 clean_asked (swept.Damaged entry) well fits = absurd well
@@ -82,13 +77,14 @@ clean_asked swept.TooMany well fits = absurd (fits tt)
 
 -- a part that is as asked
 abbrev IsFine : Part → Type 0
-IsFine (part.Upload end) = is_as_asked (outcome.Upload end) ≡ true
-IsFine (part.Sync end) = is_as_asked (outcome.Sync end) ≡ true
-IsFine (part.Compact end) = is_as_asked (outcome.Compact end) ≡ true
-IsFine (part.Clean end) = is_as_asked (outcome.Clean end) ≡ true
-IsFine (part.Query own) = why_none own ≡ None
+IsFine (came_to.Upload end) = is_as_asked (came_to.Upload end) ≡ true
+IsFine (came_to.Unshipped cause) = ⊥
+IsFine (came_to.Sync end) = is_as_asked (came_to.Sync end) ≡ true
+IsFine (came_to.Compact end) = is_as_asked (came_to.Compact end) ≡ true
+IsFine (came_to.Clean end) = is_as_asked (came_to.Clean end) ≡ true
+IsFine (came_to.Query own) = why_none own ≡ None
 
-call_fine : (used : Use) (end : SeriesEnd) → IsWell (answered used end) → why_none (call_part end) ≡ None
+call_fine : (used : Use) (end : SeriesEnd) → IsWell (answered used end) → why_none (call_part used.view.first end) ≡ None
 call_fine used (called.Answer series sources) well = refl
 call_fine used (called.Missing entry) well = absurd well
 call_fine used (called.Damaged entry) well = absurd well
@@ -98,17 +94,17 @@ fine_as : (one other : Part) → one ≡ other → IsFine other → IsFine one
 fine_as one other is fine = subst IsFine (sym is) fine
 
 part_fine : (w : Work) (end : End) (one : Part) → Calm end → IsPart w end one → IsFine one
-part_fine (work.Upload ulid stop) (uploaded e) one well is = fine_as one (part.Upload (upload_outcome e)) is (upload_asked e well.0)
+part_fine (work.Upload ulid stop) (uploaded e) one well is = fine_as one (came_to.Upload (halt.Ended e)) is (upload_asked e well.0)
 part_fine (work.Upload ulid stop) (refused cause) one well is = absurd (well.1 cause refl)
-part_fine (work.Upload ulid stop) (stopped count) one well is = fine_as one (part.Upload (upload.Stopped count)) is refl
-part_fine (work.Sync gateway) (synced e) one well is = fine_as one (part.Sync (sync_outcome e)) is (sync_asked e well.0)
-part_fine (work.Compact stop) (compacted e) one well is = fine_as one (part.Compact (compact_outcome e)) is (compact_asked e well.0 well.2)
-part_fine (work.Compact stop) (stopped count) one well is = fine_as one (part.Compact (compact.Stopped count)) is refl
-part_fine (work.Clean stop) (cleaned e) one well is = fine_as one (part.Clean (clean_outcome e)) is (clean_asked e well.0 well.2)
-part_fine (work.Clean stop) (stopped count) one well is = fine_as one (part.Clean (clean.Stopped count)) is refl
-part_fine (work.Query low high n) (answered used e) one well is = fine_as one (part.Query (call_part e)) is (call_fine used e well.0)
+part_fine (work.Upload ulid stop) (stopped count) one well is = fine_as one (came_to.Upload (halt.At count)) is refl
+part_fine (work.Sync gateway) (synced e) one well is = fine_as one (came_to.Sync (sync_outcome e)) is (sync_asked e well.0)
+part_fine (work.Compact stop) (compacted e) one well is = fine_as one (came_to.Compact (halt.Ended e)) is (compact_asked e well.0 well.2)
+part_fine (work.Compact stop) (stopped count) one well is = fine_as one (came_to.Compact (halt.At count)) is refl
+part_fine (work.Clean stop) (cleaned e) one well is = fine_as one (came_to.Clean (halt.Ended e)) is (clean_asked e well.0 well.2)
+part_fine (work.Clean stop) (stopped count) one well is = fine_as one (came_to.Clean (halt.At count)) is refl
+part_fine (work.Query low high n) (answered used e) one well is = fine_as one (came_to.Query (call_part used.view.first e)) is (call_fine used e well.0)
 part_fine (work.Query low high n) without_view one well is = absurd well.0
-part_fine (work.Query low high n) not_asked one well is = fine_as one (part.Query given.NotAsked) is refl
+part_fine (work.Query low high n) not_asked one well is = fine_as one (came_to.Query given.NotAsked) is refl
 part_fine w end one well is = absurd is
 
 abbrev AreWell : List End → Type 0
@@ -121,25 +117,34 @@ parts_fine w (end ∷ own) [] well all = absurd all
 parts_fine w (end ∷ own) (one ∷ parts) well all =
     (part_fine w end one (well end (contains_first end own)) all.0, parts_fine w own parts (λ e among. well e (contains_later end e own among)) all.1)
 
-none_told : (gateway : ℕ) (own : List QueryPart) → AllByRecursion IsFine (map part.Query own) → first_none gateway own ≡ None
+none_told : (gateway : ℕ) (own : List QueryPart) → AllByRecursion IsFine (map came_to.Query own) → first_none gateway own ≡ None
 none_told gateway [] fine = refl
 none_told gateway (given.NotAsked ∷ own) fine = none_told (gateway + 1) own fine.1
-none_told gateway (given.Answer a ∷ own) fine = none_told (gateway + 1) own fine.1
-none_told gateway (given.NoAnswer why ∷ own) fine = absurd (let none = fine.0 in cc (none))
+none_told gateway (given.NoView ∷ own) fine = absurd (let none = fine.0 in cc (none))
+none_told gateway (given.Answer a first ∷ own) fine = none_told (gateway + 1) own fine.1
+none_told gateway (given.NoAnswer why first ∷ own) fine = absurd (let none = fine.0 in cc (none))
 
-query_asked : (own : List QueryPart) (end : QueryOutcome) → AllByRecursion IsFine (map part.Query own) → IsQueryOutcome own end → is_as_asked (outcome.Query end) ≡ true
+query_asked : (own : List QueryPart) (end : QueryOutcome) → AllByRecursion IsFine (map came_to.Query own) → IsQueryOutcome own end → is_as_asked (came_to.Query end) ≡ true
 query_asked own (query.Answer answer names) fine is = refl
 query_asked own (query.NoAnswer gateway why) fine is = absurd (let none = none_told 0 own fine in cc (none, is))
 
 asked_as : (o p : Outcome) → o ≡ p → is_as_asked p ≡ true → is_as_asked o ≡ true
 asked_as o p is asked = ap is_as_asked is ∙ asked
 
+whole_asked : (one : Part) (o : Outcome) → IsFine one → IsWhole one o → is_as_asked o ≡ true
+whole_asked (came_to.Upload end) o fine is = asked_as o (came_to.Upload end) is fine
+whole_asked (came_to.Unshipped cause) o fine is = absurd fine
+whole_asked (came_to.Sync end) o fine is = asked_as o (came_to.Sync end) is fine
+whole_asked (came_to.Compact end) o fine is = asked_as o (came_to.Compact end) is fine
+whole_asked (came_to.Clean end) o fine is = asked_as o (came_to.Clean end) is fine
+whole_asked (came_to.Query own) o fine is = absurd is
+
+asked_by : (all : Bool) (parts : List Part) (o : Outcome) → AllByRecursion IsFine parts → OutcomeBy all parts o → is_as_asked o ≡ true
+asked_by false parts o fine (one, are, is) = whole_asked one o (subst (AllByRecursion IsFine) are fine).0 is
+asked_by true parts o fine (own, end, are, is, same) = asked_as o (came_to.Query end) same (query_asked own end (subst (AllByRecursion IsFine) are fine) is)
+
 of_asked : (w : Work) (parts : List Part) (o : Outcome) → AllByRecursion IsFine parts → IsOutcomeOf w parts o → is_as_asked o ≡ true
-of_asked (work.Upload ulid stop) parts o fine (end, are, is) = asked_as o (outcome.Upload end) is (subst (AllByRecursion IsFine) are fine).0
-of_asked (work.Sync gateway) parts o fine (end, are, is) = asked_as o (outcome.Sync end) is (subst (AllByRecursion IsFine) are fine).0
-of_asked (work.Compact stop) parts o fine (end, are, is) = asked_as o (outcome.Compact end) is (subst (AllByRecursion IsFine) are fine).0
-of_asked (work.Clean stop) parts o fine (end, are, is) = asked_as o (outcome.Clean end) is (subst (AllByRecursion IsFine) are fine).0
-of_asked (work.Query low high n) parts o fine (own, end, are, is, same) = asked_as o (outcome.Query end) same (query_asked own end (subst (AllByRecursion IsFine) are fine) is)
+of_asked w parts o fine of = asked_by (asks_all w) parts o fine of
 
 outcome_asked : (w : Work) (own : List End) (o : Outcome) → AreWell own → IsOutcome w own o → is_as_asked o ≡ true
 outcome_asked w own o well (parts, zipped, of) = of_asked w parts o (parts_fine w own parts well zipped) of

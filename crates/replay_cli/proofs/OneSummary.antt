@@ -8,8 +8,7 @@ use Rattle.script_workers.specs.declared.task.Task.{Task}
 use Rattle.call_verdicts.specs.lifecycle_core.specs.Setting.{setting_of}
 use Rattle.call_verdicts.specs.lifecycle_core.specs.Tasks.{End}
 use Rattle.call_verdicts.specs.lifecycle_core.proofs.phases.OneEnding.{ends_tell}
-use Rattle.call_verdicts.specs.script_running.specs.Outcomes.{PhasesCame, is_as_asked}
-use Rattle.call_verdicts.specs.script_running.specs.declared.outcome.Outcome.{Outcome}
+use Rattle.call_verdicts.specs.script_running.specs.Outcomes.{Outcome, PhasesCame, is_as_asked}
 use Rattle.call_verdicts.specs.breach_finding.specs.declared.found.Breach.{Breach}
 use Rattle.call_verdicts.specs.breach_finding.proofs.OneAnswer.{one_answer}
 use Rattle.generated_day.specs.Summaries.{summary_text}

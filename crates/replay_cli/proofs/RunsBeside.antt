@@ -19,10 +19,9 @@ use Rattle.call_verdicts.specs.lifecycle_core.specs.Guarantees.{IsGuaranteedJour
 use Rattle.call_verdicts.specs.lifecycle_core.proofs.Assembling.{all_guaranteed, none_guaranteed}
 use Rattle.call_verdicts.specs.script_running.specs.Beside.{HasRunBeside}
 use Rattle.call_verdicts.specs.script_running.specs.Reporting.{HasToldFirst, TellsFirst}
-use Rattle.call_verdicts.specs.script_running.specs.Outcomes.{PhasesCame, TasksCame, is_as_asked}
+use Rattle.call_verdicts.specs.script_running.specs.Outcomes.{Outcome, PhasesCame, TasksCame, is_as_asked}
 use Rattle.call_verdicts.specs.script_running.specs.declared.came.Broken.{Broken}
 use Rattle.call_verdicts.specs.script_running.specs.declared.came.Broken.TheVariants as broken
-use Rattle.call_verdicts.specs.script_running.specs.declared.outcome.Outcome.{Outcome}
 use Rattle.call_verdicts.specs.report_lines.specs.Reports.{activity_text}
 use Rattle.replay_cli.specs.InPhases.{IsInPhases}
 use Rattle.call_verdicts.specs.report_lines.specs.Telling.{AreLinesOf}

@@ -27,17 +27,14 @@ use Rattle.call_verdicts.specs.lifecycle_core.specs.Setting.{Setting}
 use Rattle.call_verdicts.specs.lifecycle_core.proofs.answers.SeveralGateways as Several
 use Rattle.call_verdicts.specs.lifecycle_core.proofs.answers.SeveralGateways.{AllAnswered, CameAll, end_of, given_by_all, named_by_all, names_from, names_of_all, series_of}
 use Rattle.call_verdicts.specs.lifecycle_core.specs.Tasks.{End, answered, not_asked, refused, stopped, synced, uploaded, without_view, compacted, cleaned}
-use Rattle.call_verdicts.specs.script_running.specs.Outcomes.{IsOutcome, IsPart, IsQueryOutcome, PhasesCame, TaskCame, TasksCame, answers_of, call_part, first_none, names_of, why_none}
+use Rattle.call_verdicts.specs.script_running.specs.Outcomes.{IsOutcome, IsPart, IsQueryOutcome, Outcome, PhasesCame, TaskCame, TasksCame, answers_of, call_part, first_none, names_of, why_none}
 use Rattle.replay_cli.specs.ToldAnswers.{IsTold, IsWorth, ToldAnswer, answered_by}
 use Rattle.call_verdicts.specs.Verdicts.{IsFullRun, IsWholeRun}
 use Rattle.call_verdicts.specs.report_lines.specs.Telling.{tasks_of}
-use Rattle.call_verdicts.specs.script_running.specs.declared.outcome.NoAnswer.TheVariants as nothing
-use Rattle.call_verdicts.specs.script_running.specs.declared.outcome.Outcome.{Outcome}
-use Rattle.call_verdicts.specs.script_running.specs.declared.outcome.Outcome.TheVariants as outcome
+use Rattle.call_verdicts.specs.script_running.specs.declared.came.Came.TheVariants as came_to
 use Rattle.call_verdicts.specs.script_running.specs.declared.outcome.QueryOutcome.TheVariants as query
-use Rattle.call_verdicts.specs.script_running.specs.declared.part.Part.TheVariants as part
-use Rattle.call_verdicts.specs.script_running.specs.declared.part.QueryPart.{QueryPart}
-use Rattle.call_verdicts.specs.script_running.specs.declared.part.QueryPart.TheVariants as given
+use Rattle.call_verdicts.specs.script_running.specs.declared.outcome.QueryPart.{QueryPart}
+use Rattle.call_verdicts.specs.script_running.specs.declared.outcome.QueryPart.TheVariants as given
 
 -- ---- which task an outcome is of
 
@@ -119,24 +116,24 @@ phase_of setting number (phase ∷ phases) (first ∷ later) outcomes (own, othe
 -- a gateway's part of a query that was answered: an answer, or it was not asked
 abbrev query_part : Option Several.Part → QueryPart
 query_part None = given.NotAsked
-query_part (Some p) = given.Answer (whole_answer p.series p.sources)
+query_part (Some p) = given.Answer (whole_answer p.series p.sources) p.used.view.first
 
-pub inner : (own other : QueryPart) → part.Query own ≡ part.Query other → own ≡ other
+pub inner : (own other : QueryPart) → came_to.Query own ≡ came_to.Query other → own ≡ other
 inner own other is = cc (is)
 
-by_call : (used : Use) (end : SeriesEnd) (own : QueryPart) → own ≡ call_part end → why_none own ≡ None → (p : Option Several.Part) × (answered used end ≡ end_of p) × (own ≡ query_part p)
+by_call : (used : Use) (end : SeriesEnd) (own : QueryPart) → own ≡ call_part used.view.first end → why_none own ≡ None → (p : Option Several.Part) × (answered used end ≡ end_of p) × (own ≡ query_part p)
 by_call used (called.Answer series sources) own is none = (Some (record { used = used; series = series; sources = sources }), refl, is)
 by_call used (called.Missing n) own is none = absurd (let w = ap why_none is in cc (w, none))
 by_call used (called.Damaged n) own is none = absurd (let w = ap why_none is in cc (w, none))
 by_call used (called.Fault n) own is none = absurd (let w = ap why_none is in cc (w, none))
 
-by_part : (low high : ℤ) (n : ℕ) (end : End) (own : QueryPart) → IsPart (work.Query low high n) end (part.Query own) → why_none own ≡ None → (p : Option Several.Part) × (end ≡ end_of p) × (own ≡ query_part p)
+by_part : (low high : ℤ) (n : ℕ) (end : End) (own : QueryPart) → IsPart (work.Query low high n) end (came_to.Query own) → why_none own ≡ None → (p : Option Several.Part) × (end ≡ end_of p) × (own ≡ query_part p)
 by_part low high n (uploaded e) own is none = absurd is
 by_part low high n (synced e) own is none = absurd is
 by_part low high n (compacted e) own is none = absurd is
 by_part low high n (cleaned e) own is none = absurd is
-by_part low high n (answered used e) own is none = by_call used e own (inner own (call_part e) is) none
-by_part low high n without_view own is none = absurd (let w = ap why_none (inner own (given.NoAnswer nothing.NoView) is) in cc (w, none))
+by_part low high n (answered used e) own is none = by_call used e own (inner own (call_part used.view.first e) is) none
+by_part low high n without_view own is none = absurd (let w = ap why_none (inner own given.NoView is) in cc (w, none))
 by_part low high n not_asked own is none = (None, refl, inner own given.NotAsked is)
 by_part low high n (refused cause) own is none = absurd is
 by_part low high n (stopped count) own is none = absurd is
@@ -144,8 +141,9 @@ by_part low high n (stopped count) own is none = absurd is
 -- where none is told, none of them gave none
 first_answers : (gateway : ℕ) (own : QueryPart) (parts : List QueryPart) → first_none gateway (own ∷ parts) ≡ None → (why_none own ≡ None) × (first_none (gateway + 1) parts ≡ None)
 first_answers gateway given.NotAsked parts is = (refl, is)
-first_answers gateway (given.Answer a) parts is = (refl, is)
-first_answers gateway (given.NoAnswer why) parts is = absurd (cc (is))
+first_answers gateway given.NoView parts is = absurd (cc (is))
+first_answers gateway (given.Answer a first) parts is = (refl, is)
+first_answers gateway (given.NoAnswer why first) parts is = absurd (cc (is))
 
 -- a query that answers does so by the answers of its gateways
 record IsByAll (ends : List End) (own : List QueryPart) : Type 0 where
@@ -153,7 +151,7 @@ record IsByAll (ends : List End) (own : List QueryPart) : Type 0 where
   are : ends ≡ map end_of parts
   own_are : own ≡ map query_part parts
 
-by_all : (low high : ℤ) (n gateway : ℕ) (ends : List End) (own : List QueryPart) → AllZip (IsPart (work.Query low high n)) ends (map part.Query own) → first_none gateway own ≡ None → IsByAll ends own
+by_all : (low high : ℤ) (n gateway : ℕ) (ends : List End) (own : List QueryPart) → AllZip (IsPart (work.Query low high n)) ends (map came_to.Query own) → first_none gateway own ≡ None → IsByAll ends own
 by_all low high n gateway [] [] all none = record { parts = []; are = refl; own_are = refl }
 by_all low high n gateway [] (q ∷ own) all none = absurd all
 by_all low high n gateway (end ∷ ends) [] all none = absurd all
@@ -197,9 +195,9 @@ module _ (setting : Setting) (journal : List Entry) (phases left : List Phase) (
       → ((query : Answered) → IsGiven setting (ends ++ untold) query → IsSound setting journal query)
       → (place : ℕ) (answer : ToldAnswer) → IsTold setting.script phases outcomes place answer → IsWorth setting journal (ends ++ untold) answer
   by_gateways lawful parts came run sound place answer told =
-      let p = phase_of setting 0 phases ends outcomes came place told.task (outcome.Query (query.Answer answer.answer answer.names)) told.at told.came in
+      let p = phase_of setting 0 phases ends outcomes came place told.task (came_to.Query (query.Answer answer.answer answer.names)) told.at told.came in
       let asked : Work = work.Query answer.low answer.high told.selector_number in
-      let is = subst (λ (w : Work). IsOutcome w p.came.own (outcome.Query (query.Answer answer.answer answer.names))) told.asks p.came.is in
+      let is = subst (λ (w : Work). IsOutcome w p.came.own (came_to.Query (query.Answer answer.answer answer.names))) told.asks p.came.is in
       let of = is.2 in
       let end : of.1 ≡ query.Answer answer.answer answer.names = cc (of.4) in
       let out = subst (IsQueryOutcome of.0) end of.3 in

@@ -24,66 +24,66 @@ use Rattle.call_verdicts.specs.lifecycle_core.specs.Holdings.{Use}
 use Rattle.call_verdicts.specs.lifecycle_core.specs.Setting.{Setting}
 use Rattle.call_verdicts.specs.lifecycle_core.specs.Tasks.{End, answered, cleaned, compacted, not_asked, refused, stopped, synced, uploaded, without_view}
 use Rattle.call_verdicts.specs.lifecycle_core.proofs.phases.Turns.{cut_in_turn, finished_in_turn}
-use Rattle.call_verdicts.specs.script_running.specs.Outcomes.{IsOutcome, IsPart, IsQueryOutcome, PhasesCame, TaskCame, TasksCame, call_part, compact_outcome, first_none}
+use Rattle.call_verdicts.specs.script_running.specs.Outcomes.{IsOutcome, IsPart, IsQueryOutcome, IsWhole, Outcome, Part, PhasesCame, TaskCame, TasksCame, call_part, first_none}
 use Rattle.call_verdicts.specs.Verdicts.{IsFullRun, IsWholeRun}
-use Rattle.call_verdicts.specs.script_running.specs.declared.outcome.Outcome.{Outcome}
-use Rattle.call_verdicts.specs.script_running.specs.declared.outcome.Outcome.TheVariants as outcome
-use Rattle.call_verdicts.specs.script_running.specs.declared.outcome.CompactOutcome.{CompactOutcome}
-use Rattle.call_verdicts.specs.script_running.specs.declared.outcome.CompactOutcome.TheVariants as compact
+use Rattle.call_verdicts.specs.script_running.specs.declared.came.Came.TheVariants as came_to
+use Rattle.call_verdicts.specs.script_running.specs.declared.came.Stop.TheVariants as halt
 use Rattle.call_verdicts.specs.script_running.specs.declared.outcome.QueryOutcome.{QueryOutcome}
 use Rattle.call_verdicts.specs.script_running.specs.declared.outcome.QueryOutcome.TheVariants as query
 use Rattle.call_verdicts.specs.script_running.specs.declared.outcome.NoAnswer.{NoAnswer}
 use Rattle.call_verdicts.specs.script_running.specs.declared.outcome.NoAnswer.TheVariants as none
-use Rattle.call_verdicts.specs.script_running.specs.declared.part.Part.TheVariants as part
-use Rattle.call_verdicts.specs.script_running.specs.declared.part.QueryPart.{QueryPart}
-use Rattle.call_verdicts.specs.script_running.specs.declared.part.QueryPart.TheVariants as given
+use Rattle.call_verdicts.specs.script_running.specs.declared.outcome.QueryPart.{QueryPart}
+use Rattle.call_verdicts.specs.script_running.specs.declared.outcome.QueryPart.TheVariants as given
 use Rattle.std.proofs.lemmas.Option.{same_Some}
 use Rattle.replay_cli.proofs.CalmRuns.{end_came}
 use Rattle.replay_cli.proofs.ToldAnswers.{inner}
 
 -- a line that tells of a missing object
 abbrev missing : ℕ → ℕ → Outcome
-missing gateway number = outcome.Query (query.NoAnswer gateway (none.Missing number))
+missing gateway number = came_to.Query (query.NoAnswer gateway (none.Missing number))
 
 -- one end of its task was such a call's
 abbrev Missed : List End → ℕ → Type 0
 Missed own number = (used : Use) × Contains own (answered used (called.Missing number))
 
-call_missed : (number : ℕ) (used : Use) (end : SeriesEnd) → given.NoAnswer (none.Missing number) ≡ call_part end → Missed (answered used end ∷ []) number
-call_missed number used (called.Answer series sources) is = absurd (cc (is))
-call_missed number used (called.Missing m) is =
+call_missed : (number first : ℕ) (used : Use) (end : SeriesEnd) → given.NoAnswer (none.Missing number) first ≡ call_part used.view.first end → Missed (answered used end ∷ []) number
+call_missed number first used (called.Answer series sources) is = absurd (cc (is))
+call_missed number first used (called.Missing m) is =
     let same : number ≡ m = cc (is) in
     (used, subst (λ (k : ℕ). Contains (answered used (called.Missing m) ∷ []) (answered used (called.Missing k))) (sym same) (contains_first (answered used (called.Missing m)) []))
-call_missed number used (called.Damaged m) is = absurd (cc (is))
-call_missed number used (called.Fault m) is = absurd (cc (is))
+call_missed number first used (called.Damaged m) is = absurd (cc (is))
+call_missed number first used (called.Fault m) is = absurd (cc (is))
 
-part_missed : (low high : ℤ) (n number : ℕ) (end : End) → IsPart (work.Query low high n) end (part.Query (given.NoAnswer (none.Missing number))) → Missed (end ∷ []) number
-part_missed low high n number (answered used e) is = call_missed number used e (inner (given.NoAnswer (none.Missing number)) (call_part e) is)
-part_missed low high n number without_view is = absurd (let same = inner (given.NoAnswer (none.Missing number)) (given.NoAnswer none.NoView) is in cc (same))
-part_missed low high n number not_asked is = absurd (let same = inner (given.NoAnswer (none.Missing number)) given.NotAsked is in cc (same))
-part_missed low high n number (uploaded e) is = absurd is
-part_missed low high n number (synced e) is = absurd is
-part_missed low high n number (compacted e) is = absurd is
-part_missed low high n number (cleaned e) is = absurd is
-part_missed low high n number (refused cause) is = absurd is
-part_missed low high n number (stopped count) is = absurd is
+part_missed : (low high : ℤ) (n number first : ℕ) (end : End) → IsPart (work.Query low high n) end (came_to.Query (given.NoAnswer (none.Missing number) first)) → Missed (end ∷ []) number
+part_missed low high n number first (answered used e) is = call_missed number first used e (inner (given.NoAnswer (none.Missing number) first) (call_part used.view.first e) is)
+part_missed low high n number first without_view is = absurd (let same = inner (given.NoAnswer (none.Missing number) first) given.NoView is in cc (same))
+part_missed low high n number first not_asked is = absurd (let same = inner (given.NoAnswer (none.Missing number) first) given.NotAsked is in cc (same))
+part_missed low high n number first (uploaded e) is = absurd is
+part_missed low high n number first (synced e) is = absurd is
+part_missed low high n number first (compacted e) is = absurd is
+part_missed low high n number first (cleaned e) is = absurd is
+part_missed low high n number first (refused cause) is = absurd is
+part_missed low high n number first (stopped count) is = absurd is
 
 later_missed : (end : End) (ends : List End) (number : ℕ) → Missed ends number → Missed (end ∷ ends) number
 later_missed end ends number m = (m.0, contains_later end (answered m.0 (called.Missing number)) ends m.1)
 
-query_missed : (low high : ℤ) (n first : ℕ) (ends : List End) (own : List QueryPart) (gateway number : ℕ) → AllZip (IsPart (work.Query low high n)) ends (map part.Query own) → first_none first own ≡ Some (gateway, none.Missing number) → Missed ends number
+query_missed : (low high : ℤ) (n first : ℕ) (ends : List End) (own : List QueryPart) (gateway number : ℕ) → AllZip (IsPart (work.Query low high n)) ends (map came_to.Query own) → first_none first own ≡ Some (gateway, none.Missing number) → Missed ends number
 query_missed low high n first [] [] gateway number all is = absurd (cc (is))
 query_missed low high n first [] (q ∷ own) gateway number all is = absurd all
 query_missed low high n first (end ∷ ends) [] gateway number all is = absurd all
 query_missed low high n first (end ∷ ends) (given.NotAsked ∷ own) gateway number all is = later_missed end ends number (query_missed low high n (first + 1) ends own gateway number all.1 is)
-query_missed low high n first (end ∷ ends) (given.Answer a ∷ own) gateway number all is = later_missed end ends number (query_missed low high n (first + 1) ends own gateway number all.1 is)
-query_missed low high n first (end ∷ ends) (given.NoAnswer why ∷ own) gateway number all is =
+query_missed low high n first (end ∷ ends) (given.NoView ∷ own) gateway number all is =
+    let pair : ◌≡◌ {A = ℕ × NoAnswer} (first, none.NoView) (gateway, none.Missing number) = same_Some (first, none.NoView) (gateway, none.Missing number) is in
+    absurd (let why = ap (λ (p : ℕ × NoAnswer). p.1) pair in cc (why))
+query_missed low high n first (end ∷ ends) (given.Answer a begun ∷ own) gateway number all is = later_missed end ends number (query_missed low high n (first + 1) ends own gateway number all.1 is)
+query_missed low high n first (end ∷ ends) (given.NoAnswer why begun ∷ own) gateway number all is =
     let pair : ◌≡◌ {A = ℕ × NoAnswer} (first, why) (gateway, none.Missing number) = same_Some (first, why) (gateway, none.Missing number) is in
     let same : why ≡ none.Missing number = ap (λ (p : ℕ × NoAnswer). p.1) pair in
-    let m = part_missed low high n number end (subst (λ (y : NoAnswer). IsPart (work.Query low high n) end (part.Query (given.NoAnswer y))) same all.0) in
+    let m = part_missed low high n number begun end (subst (λ (y : NoAnswer). IsPart (work.Query low high n) end (came_to.Query (given.NoAnswer y begun))) same all.0) in
     (m.0, Contains-append_left (end ∷ []) ends (answered m.0 (called.Missing number)) m.1)
 
-end_is : (gateway number : ℕ) (end : QueryOutcome) → missing gateway number ≡ outcome.Query end → end ≡ query.NoAnswer gateway (none.Missing number)
+end_is : (gateway number : ℕ) (end : QueryOutcome) → missing gateway number ≡ came_to.Query end → end ≡ query.NoAnswer gateway (none.Missing number)
 end_is gateway number end is = cc (is)
 
 -- some end of a task is such a one
@@ -97,11 +97,19 @@ IsCallMiss number end = (used : Use) × (end ≡ answered used (called.Missing n
 abbrev IsCompactionMiss : ℕ → End → Type 0
 IsCompactionMiss number end = end ≡ compacted (merged.Missing number)
 
+no_whole : (one : Part) (end : QueryOutcome) → IsWhole one (came_to.Query end) → ⊥
+no_whole (came_to.Upload own) end is = absurd (cc (is))
+no_whole (came_to.Unshipped cause) end is = absurd (cc (is))
+no_whole (came_to.Sync own) end is = absurd (cc (is))
+no_whole (came_to.Compact own) end is = absurd (cc (is))
+no_whole (came_to.Clean own) end is = absurd (cc (is))
+no_whole (came_to.Query own) end is = is
+
 all_missed : (gateway number : ℕ) (w : Work) (own : List End) → IsOutcome w own (missing gateway number) → HasEnd (IsCallMiss number) own
-all_missed gateway number (work.Upload ulid stop) own (parts, zipped, (end, are, is)) = absurd (cc (is))
-all_missed gateway number (work.Sync g) own (parts, zipped, (end, are, is)) = absurd (cc (is))
-all_missed gateway number (work.Compact stop) own (parts, zipped, (end, are, is)) = absurd (cc (is))
-all_missed gateway number (work.Clean stop) own (parts, zipped, (end, are, is)) = absurd (cc (is))
+all_missed gateway number (work.Upload ulid stop) own (parts, zipped, (one, are, whole)) = absurd (no_whole one (query.NoAnswer gateway (none.Missing number)) whole)
+all_missed gateway number (work.Sync g) own (parts, zipped, (one, are, whole)) = absurd (no_whole one (query.NoAnswer gateway (none.Missing number)) whole)
+all_missed gateway number (work.Compact stop) own (parts, zipped, (one, are, whole)) = absurd (no_whole one (query.NoAnswer gateway (none.Missing number)) whole)
+all_missed gateway number (work.Clean stop) own (parts, zipped, (one, are, whole)) = absurd (no_whole one (query.NoAnswer gateway (none.Missing number)) whole)
 all_missed gateway number (work.Query low high n) own (parts, zipped, (given_parts, end, are, is, same)) =
     let m = query_missed low high n 0 own given_parts gateway number (subst (AllZip (IsPart (work.Query low high n)) own) are zipped) (subst (IsQueryOutcome given_parts) (end_is gateway number end same) is) in
     (answered m.0 (called.Missing number), m.1, (m.0, refl))
@@ -110,41 +118,43 @@ all_missed gateway number (work.Query low high n) own (parts, zipped, (given_par
 
 -- a line that tells of a compaction's missing object
 abbrev missing_input : ℕ → Outcome
-missing_input number = outcome.Compact (compact.Missing number)
+missing_input number = came_to.Compact (halt.Ended (merged.Missing number))
 
-merge_missed : (number : ℕ) (end : CompactEnd) → compact.Missing number ≡ compact_outcome end → IsCompactionMiss number (compacted end)
-merge_missed number (merged.Done collected groups expired) is = absurd (cc (is))
-merge_missed number (merged.Fault m) is = absurd (cc (is))
-merge_missed number (merged.Missing m) is = let same : m ≡ number = cc (is) in ap (λ (k : ℕ). compacted (merged.Missing k)) same
-merge_missed number (merged.Damaged m) is = absurd (cc (is))
-merge_missed number merged.TooMany is = absurd (cc (is))
-merge_missed number merged.TooLarge is = absurd (cc (is))
+whole_input : (number : ℕ) (one : Part) → IsWhole one (missing_input number) → one ≡ came_to.Compact (halt.Ended (merged.Missing number))
+whole_input number (came_to.Upload end) is = absurd (cc (is))
+whole_input number (came_to.Unshipped cause) is = absurd (cc (is))
+whole_input number (came_to.Sync end) is = absurd (cc (is))
+whole_input number (came_to.Compact end) is = let same : end ≡ halt.Ended (merged.Missing number) = cc (is) in ap came_to.Compact same
+whole_input number (came_to.Clean end) is = absurd (cc (is))
+whole_input number (came_to.Query own) is = absurd is
 
-part_compact : (one other : CompactOutcome) → part.Compact one ≡ part.Compact other → one ≡ other
-part_compact one other is = cc (is)
+input_missed : (number : ℕ) (w : Work) (end : End) → IsPart w end (came_to.Compact (halt.Ended (merged.Missing number))) → IsCompactionMiss number end
+input_missed number (work.Upload ulid stop) (uploaded e) is = absurd (cc (is))
+input_missed number (work.Upload ulid stop) (refused cause) is = absurd (cc (is))
+input_missed number (work.Upload ulid stop) (stopped count) is = absurd (cc (is))
+input_missed number (work.Sync g) (synced e) is = absurd (cc (is))
+input_missed number (work.Compact stop) (compacted e) is = let same : e ≡ merged.Missing number = cc (is) in ap compacted same
+input_missed number (work.Compact stop) (stopped count) is = absurd (cc (is))
+input_missed number (work.Clean stop) (cleaned e) is = absurd (cc (is))
+input_missed number (work.Clean stop) (stopped count) is = absurd (cc (is))
+input_missed number (work.Query low high n) (answered used e) is = absurd (cc (is))
+input_missed number (work.Query low high n) without_view is = absurd (cc (is))
+input_missed number (work.Query low high n) not_asked is = absurd (cc (is))
+input_missed number w end is = absurd is
 
-input_missed : (stop : Option ℕ) (number : ℕ) (end : End) → IsPart (work.Compact stop) end (part.Compact (compact.Missing number)) → IsCompactionMiss number end
-input_missed stop number (compacted e) is = merge_missed number e (part_compact (compact.Missing number) (compact_outcome e) is)
-input_missed stop number (stopped count) is = absurd (let same = part_compact (compact.Missing number) (compact.Stopped count) is in cc (same))
-input_missed stop number (cleaned e) is = absurd is
-input_missed stop number (answered used e) is = absurd is
-input_missed stop number without_view is = absurd is
-input_missed stop number not_asked is = absurd is
-input_missed stop number (uploaded e) is = absurd is
-input_missed stop number (synced e) is = absurd is
-input_missed stop number (refused cause) is = absurd is
+one_missed : (number : ℕ) (w : Work) (own : List End) → AllZip (IsPart w) own (came_to.Compact (halt.Ended (merged.Missing number)) ∷ []) → HasEnd (IsCompactionMiss number) own
+one_missed number w [] all = absurd all
+one_missed number w (end ∷ own) all = (end, contains_first end own, input_missed number w end all.0)
 
-one_missed : (stop : Option ℕ) (number : ℕ) (own : List End) → AllZip (IsPart (work.Compact stop)) own (part.Compact (compact.Missing number) ∷ []) → HasEnd (IsCompactionMiss number) own
-one_missed stop number [] all = absurd all
-one_missed stop number (end ∷ own) all = (end, contains_first end own, input_missed stop number end all.0)
+whole_missed : (number : ℕ) (w : Work) (own : List End) (parts : List Part) (one : Part) → AllZip (IsPart w) own parts → parts ≡ one ∷ [] → IsWhole one (missing_input number) → HasEnd (IsCompactionMiss number) own
+whole_missed number w own parts one zipped are whole =
+    one_missed number w own (subst (AllZip (IsPart w) own) (are ∙ ap (λ (x : Part). x ∷ []) (whole_input number one whole)) zipped)
 
 all_inputs_missed : (number : ℕ) (w : Work) (own : List End) → IsOutcome w own (missing_input number) → HasEnd (IsCompactionMiss number) own
-all_inputs_missed number (work.Upload ulid stop) own (parts, zipped, (end, are, is)) = absurd (cc (is))
-all_inputs_missed number (work.Sync g) own (parts, zipped, (end, are, is)) = absurd (cc (is))
-all_inputs_missed number (work.Compact stop) own (parts, zipped, (end, are, is)) =
-    let same : end ≡ compact.Missing number = cc (is) in
-    one_missed stop number own (subst (AllZip (IsPart (work.Compact stop)) own) (are ∙ ap (λ (x : CompactOutcome). part.Compact x ∷ []) same) zipped)
-all_inputs_missed number (work.Clean stop) own (parts, zipped, (end, are, is)) = absurd (cc (is))
+all_inputs_missed number (work.Upload ulid stop) own (parts, zipped, (one, are, whole)) = whole_missed number (work.Upload ulid stop) own parts one zipped are whole
+all_inputs_missed number (work.Sync g) own (parts, zipped, (one, are, whole)) = whole_missed number (work.Sync g) own parts one zipped are whole
+all_inputs_missed number (work.Compact stop) own (parts, zipped, (one, are, whole)) = whole_missed number (work.Compact stop) own parts one zipped are whole
+all_inputs_missed number (work.Clean stop) own (parts, zipped, (one, are, whole)) = whole_missed number (work.Clean stop) own parts one zipped are whole
 all_inputs_missed number (work.Query low high n) own (parts, zipped, (given_parts, end, are, is, same)) = absurd (cc (same))
 
 -- ---- among the ends of a run

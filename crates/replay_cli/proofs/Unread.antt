@@ -1,9 +1,10 @@
 -- Runs of which the reading of the shelf was broken off.
-use Rattle.std.proofs.Common.{◌≡◌, inl, inr, ℕ, ◌<◌, false, List, [], Option, None, Some, sym, ap, subst, arith}
+use Rattle.std.proofs.Common.{◌≡◌, inl, inr, ◌<◌, false, List, [], Option, None, Some, sym, ap, subst, arith}
 use Rattle.std.specs.Prelude.{IfSome, IsSomeAnd}
 use Rattle.bucket_core.specs.Contents.{nothing}
 use Rattle.world_core.specs.declared.entry.Entry.{Entry}
 use Rattle.script_core.specs.declared.script.Script.{Script}
+use Rattle.bucket_core.specs.Told.{ShelfTold}
 use Rattle.call_verdicts.specs.lifecycle_core.specs.Guarantees.{IsGuaranteedJournal}
 use Rattle.call_verdicts.specs.lifecycle_core.specs.Setting.{Setting, setting_of}
 use Rattle.call_verdicts.specs.Checks.{HasFailed}
@@ -33,7 +34,7 @@ broken_more failed other v more (inl (is, fails)) = inl (is, more fails)
 broken_more failed other v more (inr is) = inr is
 
 -- the shelf failed, if it did, in this call
-pub failed_since : {F : Type 0} (faults : F → ℕ) (old new : Option F) → IfSome old (λ s. faults s ≡ 0) → HasFailed faults old new → IsSomeAnd new (λ s. 0 < faults s)
-failed_since faults (Some old) (Some new) fresh rose = omega (arith, fresh, rose)
-failed_since faults (Some old) None fresh failed = absurd failed
-failed_since faults None new fresh failed = absurd failed
+pub failed_since : {F : Type 0} (tells : F → ShelfTold) (old new : Option F) → IfSome old (λ s. (tells s).faults ≡ 0) → HasFailed tells old new → IsSomeAnd new (λ s. 0 < (tells s).faults)
+failed_since tells (Some old) (Some new) fresh rose = omega (arith, fresh, rose)
+failed_since tells (Some old) None fresh failed = absurd failed
+failed_since tells None new fresh failed = absurd failed

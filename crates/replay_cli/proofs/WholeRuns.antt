@@ -21,12 +21,11 @@ use Rattle.call_verdicts.specs.lifecycle_core.proofs.phases.FirstPhases.{no_phas
 use Rattle.call_verdicts.specs.lifecycle_core.proofs.phases.RunsInLine.{by_none, by_parts, ends_by_workers, finished, own_undone, run_by, runs}
 use Rattle.call_verdicts.specs.script_running.specs.declared.sight.Sight.{Sight}
 use Rattle.line_running.specs.Progress.{IsBrokenAt, PhasesDone, Reached, duties_at}
-use Rattle.call_verdicts.specs.script_running.specs.Outcomes.{is_as_asked}
+use Rattle.call_verdicts.specs.script_running.specs.Outcomes.{Outcome, is_as_asked}
 use Rattle.call_verdicts.specs.breach_finding.specs.declared.found.Breach.{Breach}
 use Rattle.call_verdicts.specs.report_lines.specs.BreachLines.{HasBreach, breach_text}
 use Rattle.call_verdicts.specs.Verdicts.{IsFullRun, IsWholeRun}
 use Rattle.call_verdicts.specs.report_lines.specs.Telling.{report_of, tasks_of}
-use Rattle.call_verdicts.specs.script_running.specs.declared.outcome.Outcome.{Outcome}
 use Rattle.call_verdicts.specs.lifecycle_core.specs.Holdings.{Holdings, none_held, with_holding}
 use Rattle.call_verdicts.specs.lifecycle_core.specs.InLine.{Duty, InLine, duties_from, in_line, seat_of}
 use Rattle.call_verdicts.specs.lifecycle_core.specs.Phases.{IsRunOf, by_workers}

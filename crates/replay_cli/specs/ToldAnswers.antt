@@ -15,8 +15,8 @@ use Rattle.call_verdicts.specs.lifecycle_core.specs.Guarantees.{Answered, IsGive
 use Rattle.call_verdicts.specs.lifecycle_core.specs.Setting.{Setting}
 use Rattle.call_verdicts.specs.lifecycle_core.specs.Tasks.{End}
 use Rattle.call_verdicts.specs.report_lines.specs.Telling.{tasks_of}
-use Rattle.call_verdicts.specs.script_running.specs.declared.outcome.Outcome.{Outcome}
-use Rattle.call_verdicts.specs.script_running.specs.declared.outcome.Outcome.TheVariants as outcome
+use Rattle.call_verdicts.specs.script_running.specs.Outcomes.{Outcome}
+use Rattle.call_verdicts.specs.script_running.specs.declared.came.Came.TheVariants as outcome
 use Rattle.call_verdicts.specs.script_running.specs.declared.outcome.QueryOutcome.TheVariants as query
 
 -- a query, and the answer that its lines tell

@@ -4,7 +4,7 @@ ghost use Rattle.std.specs.Prelude.{◌≡◌, ◌++◌, [], List, None, Some, O
 ghost use Rattle.world_core.specs.Worlds.{IsJournal, IsOfBytes, failed_count};
 ghost use Rattle.script_core.specs.Lawful.{IsLawfulScript};
 ghost use Rattle.call_verdicts.specs.Kept.{IsTrueOfStore};
-ghost use Rattle.call_verdicts.specs.Asked.{WasAsked, for_opening};
+ghost use Rattle.call_verdicts.specs.Asked.{WasAsked, calls_asked, for_opening};
 ghost use Rattle.call_verdicts.specs.Noted.{IsNoted, met};
 ghost use Rattle.replay_cli.specs.Days.{EndsDay, IsBareFull, IsDay, IsDayNoted, IsDayRun};
 
@@ -78,11 +78,11 @@ fn run_script<B: Bucket>(
     requires lawful { IsLawfulScript script.now }
     requires fresh { world.journal ≡ [] }
     requires tick { world.tick ≡ script.now.rules.tick.ms }
-    requires asked { WasAsked B.asked for_opening world.bucket }
+    requires asked { WasAsked (calls_asked B.told) for_opening world.bucket }
     ensures came { IsDay script.now result.1 result.0 }
-    ensures back { IsTrueOfStore B.contents B.faults result.1 result.2 }
-    ensures unfailed { B.quiet world.bucket → failed_count result.1 ≡ 0 }
-    ensures noted { IsNoted met B.asked result.0 (Some result.1) (Some result.2) result.3 }
+    ensures back { IsTrueOfStore B.told result.1 result.2 }
+    ensures unfailed { (B.told world.bucket).quiet → failed_count result.1 ≡ 0 }
+    ensures noted { IsNoted met B.told result.0 (Some result.1) (Some result.2) result.3 }
 {
     let (came, tally, hand) = do_in_line(alloc, script, &[], world);
     let world = hand.world();

@@ -14,8 +14,9 @@ ghost use Rattle.replay_cli.specs.Days.{IsWholeDay};
 ghost use Rattle.replay_cli.specs.ToldAnswers.{IsTold, IsWorth, ToldAnswer};
 ghost use Rattle.call_verdicts.specs.Shippable.{RefusesNone, StaysWithin};
 ghost use Rattle.call_verdicts.specs.Verdicts.{IsFullRun, IsTrusted, IsWholeRun};
-ghost use Rattle.call_verdicts.specs.script_running.specs.declared.outcome.Outcome.TheVariants as outcome;
-ghost use Rattle.call_verdicts.specs.script_running.specs.declared.outcome.CompactOutcome.TheVariants as compact;
+ghost use Rattle.call_verdicts.specs.script_running.specs.declared.came.Came.TheVariants as outcome;
+ghost use Rattle.call_verdicts.specs.script_running.specs.declared.came.Stop.TheVariants as stop;
+ghost use Rattle.compactor.specs.declared.compact_end.CompactEnd.TheVariants as compact;
 ghost use Rattle.call_verdicts.specs.script_running.specs.declared.outcome.QueryOutcome.TheVariants as query;
 ghost use Rattle.call_verdicts.specs.script_running.specs.declared.outcome.NoAnswer.TheVariants as none;
 
@@ -74,11 +75,11 @@ pub fn told_misses_are_explained()
         → IsExplained setting journal number }
     ensures compaction { (setting : Setting) (as_asked : Bool) (text : List ℕ)
         (journal : List Entry) (run : IsWholeRun setting as_asked text journal) (number : ℕ)
-        → Contains run.report.outcomes (outcome.Compact (compact.Missing number))
+        → Contains run.report.outcomes (outcome.Compact (stop.Ended (compact.Missing number)))
         → IsExplainedBy setting (watched setting journal) IsBlamedInCompaction journal number }
     ensures compaction_of_full { (setting : Setting) (text : List ℕ) (journal : List Entry)
         (run : IsFullRun setting text journal) (number : ℕ)
-        → Contains run.report.outcomes (outcome.Compact (compact.Missing number))
+        → Contains run.report.outcomes (outcome.Compact (stop.Ended (compact.Missing number)))
         → IsExplainedBy setting (watched setting journal) IsBlamedInCompaction journal number }
 {}
 

@@ -14,8 +14,7 @@ mod tool;
 
 pub use call_verdicts::report_lines::CheckOutcome;
 pub use call_verdicts::script_running::{
-    CleanOutcome, CompactOutcome, NoAnswer, Outcome, OutcomeList, QueryOutcome, SyncOutcome,
-    UploadOutcome,
+    Came, CleanEnd, CompactEnd, NoAnswer, Outcome, QueryOutcome, Stop, SyncOutcome, UploadEnd,
 };
 pub use call_verdicts::{InputRefusal, Run, SinkFault, Status, Verdict, read_all, write_all};
 pub use laws::{

@@ -1,11 +1,14 @@
 //! A run is prepared, in whichever way its tasks are to be done, and ended.
 
+ghost use Rattle.call_verdicts.specs.Outside.{outside, site_call};
 ghost use Rattle.call_verdicts.specs.Words.{named_by};
-ghost use Rattle.replay_cli.specs.Calls.{IsEndOfRun, Prepares, outside};
+ghost use Rattle.replay_cli.specs.Calls.{IsEndOfRun, Prepares};
 
 use bucket_core::{Bucket, Site, Source};
 use call_verdicts::script_running::ShelfBlockList;
-use call_verdicts::{CheckWay, Conclusion, Ended, Ready, Verdict, read_and_open, read_blocks};
+use call_verdicts::{
+    CheckWay, Conclusion, Ended, Named, Ready, Verdict, read_and_open, read_blocks,
+};
 use run_notes::Finished;
 use script_core::Script;
 use std::alloc::Global;
@@ -24,19 +27,17 @@ pub(crate) struct Prepared<B: Bucket, F> {
 /// Reads the script and the blocks that it takes from the shelf, which are checked in this way, and opens the bucket; or ends the call.
 pub(crate) fn prepare<S: Site, R: Source, W: CheckWay>(
     alloc: Global,
-    bucket: &str,
-    shelf: &str,
+    named: &Named<'_>,
     site: &mut S,
     script: &mut R,
     way: &W,
 ) -> Result<Prepared<S::Store, S::Files>, Ended<S::Store, S::Files>>
     requires { W.can_check way.now }
-    ensures { Prepares (outside R.left R.faults script.old script.new
-        S.buckets S.next_bucket S.shelves S.next_shelf S.faults site.old site.new
-        S.Store.contents S.Store.faults S.Store.asked S.Files.files S.Files.faults S.Files.asked
-        bucket.now (named_by shelf.now)) result }
+    ensures { Prepares (outside (R.told script.old) (R.told script.new)
+        (site_call (S.told site.old) (S.told site.new) S.Store.told S.Files.told))
+        named.now.bucket.now (named_by named.now.shelf.now) result }
 {
-    match read_and_open(alloc, bucket, shelf, site, script) {
+    match read_and_open(alloc, named.bucket, named.shelf, site, script) {
         Ok(
             Ready {
                 script,
@@ -68,7 +69,7 @@ pub(crate) fn end_run<B: Bucket, F>(
     run: Finished<B>,
     shelf: Option<F>,
 ) -> Ended<B, F>
-    ensures { IsEndOfRun B.contents B.faults verdict run.world run.note shelf result }
+    ensures { IsEndOfRun B.told verdict run.world run.note shelf result }
 {
     let (conclusion, note) = Conclusion::of_run(verdict, run);
     Ended {

@@ -1,22 +1,18 @@
 //! The call `replay`: a script is run with the workers of each phase in threads. It promises what `serial` promises,
 //! but not that it returns, since it waits for turns and threads.
 
-ghost use Rattle.std.specs.Prelude.{◌≡◌, ◌≢◌, Some, None, IfSome, is_some};
-ghost use Rattle.replay_cli.specs.Calls.{Leaves, outside};
-ghost use Rattle.replay_cli.specs.InPhases.{IsInPhases};
+ghost use Rattle.call_verdicts.specs.Outside.{outside, site_call};
+ghost use Rattle.call_verdicts.specs.Verdicts.{saying_to};
+ghost use Rattle.call_verdicts.specs.Words.{named_by, replay_names};
+ghost use Rattle.replay_cli.specs.Calls.{Leaves, run_names};
+ghost use Rattle.replay_cli.specs.Promises.{Serves, call_of};
 ghost use Rattle.replay_cli.specs.Ways.{beside};
-ghost use Rattle.call_verdicts.specs.Noted.{IsFullSaid, IsNoted, met_alone};
-ghost use Rattle.call_verdicts.specs.Kept.{IsHandedBack, IsHandedOut, IsNotAsked, IsShelfOf, IsUntouched, told_of};
-ghost use Rattle.call_verdicts.specs.Asked.{IsBucketAsked, WasReadFor};
-ghost use Rattle.call_verdicts.specs.Statuses.{number_of};
-ghost use Rattle.call_verdicts.specs.Verdicts.{EndsCalmly, IsCaused, IsSaid, around_call, saying_to};
-ghost use Rattle.call_verdicts.specs.Words.{named_by, replay_shelf, replay_word};
 
 use crate::checking::Beside;
 use crate::preparing::{Prepared, end_run, prepare};
 use crate::runner::run_with_threads;
 use bucket_core::{Sink, Site, Source};
-use call_verdicts::{Conclusion, Ended, Run, Status, Verdict, read_replay};
+use call_verdicts::{Conclusion, Ended, Named, Run, Verdict, read_replay};
 use phase_runner::Gate;
 use std::alloc::Global;
 use std::sync::Wait;
@@ -36,52 +32,12 @@ pub fn run_replay<S: Site, R: Source, K: Sink, G: Gate + Sync, T: Threads + Wait
 ) -> Run<S::Store, S::Files>
 where
     S::Store: Send,
-    // The call comes to a verdict that has its cause, and says it. The journal is one of workers beside each other. Unless that is
-    // want of memory, the bucket was asked for what the journal shows, behind the page that opens it, and for nothing else. The note of
-    // the run is of its journal and its bucket. The verdict tells of the full journal just where the note says that an operation was
-    // answered with it, and that memory was wanted for none.
-    ensures verdict { (verdict : Verdict) × (status : Status)
-        × IsCaused
-        (around_call IsInPhases R.left R.faults script.old script.new
-        S.buckets S.next_bucket S.shelves S.next_shelf S.faults
-        (replay_word words.now) (replay_shelf words.now)
-        None site.old site.new S.Store.faults S.Files.faults
-        result.store result.shelf result.journal) verdict
-        × IsSaid verdict (saying_to K.faults K.written out.old out.new) status
-        × (result.status ≡ number_of status)
-        × (verdict ≢ Verdict.NoMemory
-        → IsBucketAsked S.Store.asked verdict result.journal result.store)
-        × IsNoted met_alone S.Store.asked verdict result.journal result.store result.note }
-
-    // Where an operation of the run was answered that the journal is full, and memory was wanted for none, the status says that the
-    // journal is full, unless the sink failed. In no other run does it say so.
-    ensures full { IfSome result.note (λ note. IsFullSaid (met_alone note.full note.wanted)
-        (saying_to K.faults K.written out.old out.new) result.status) }
-
-    // No generated day is run.
-    ensures no_day { result.day ≡ None }
-
-    // A calm call ends as asked, unless there is no memory, a pattern of its script is too large, a block of it is refused, or
-    // a task met a limit.
-    ensures calm { EndsCalmly
-        (around_call IsInPhases R.left R.faults script.old script.new
-        S.buckets S.next_bucket S.shelves S.next_shelf S.faults
-        (replay_word words.now) (replay_shelf words.now)
-        None site.old site.new S.Store.faults S.Files.faults
-        result.store result.shelf result.journal)
-        (saying_to K.faults K.written out.old out.new) result.status }
-
-    // Of the bucket and the shelf all holds that holds of those of `run_tool`.
-    ensures handed { IsHandedOut S.buckets site.old site.new result.store }
-    ensures kept { is_some result.journal ≡ is_some result.store }
-    ensures back { IsHandedBack S.Store.contents S.Store.faults result.journal result.store }
-    ensures untouched { IfSome (told_of (S.next_bucket site.old) (replay_word words.now))
-        (λ c. IsUntouched S.Store.contents c result.journal result.store) }
-    ensures closed { replay_word words.now ≡ None
-        → IsNotAsked S.buckets S.next_bucket site.old site.new }
-    ensures shelf { IsShelfOf S.shelves S.next_shelf S.Files.files (replay_shelf words.now)
-        site.old site.new result.shelf }
-    ensures asked { IfSome result.shelf (WasReadFor S.Files.asked (R.left script.old)) }
+    // It promises what `run_tool` promises of a script. The journal is one of workers beside each other, and the verdict tells that it is
+    // full just where an operation was answered so, and memory was wanted for none.
+    ensures { Serves beside (replay_names words.now)
+        (call_of (outside (R.told script.old) (R.told script.new)
+        (site_call (S.told site.old) (S.told site.new) S.Store.told S.Files.told))
+        (saying_to (K.told out.old) (K.told out.new)) result) }
 {
     come_to(rt, alloc, gate, words, site, script).into_run(alloc, out)
 }
@@ -97,32 +53,12 @@ fn come_to<S: Site, R: Source, G: Gate + Sync, T: Threads + Wait + Sync>(
 ) -> Ended<S::Store, S::Files>
 where
     S::Store: Send,
-    ensures cause { IsCaused
-        (around_call IsInPhases R.left R.faults script.old script.new
-        S.buckets S.next_bucket S.shelves S.next_shelf S.faults
-        (replay_word words.now) (replay_shelf words.now)
-        None site.old site.new S.Store.faults S.Files.faults
-        result.conclusion.store result.shelf result.conclusion.journal)
-        result.conclusion.verdict }
-    ensures handed { IsHandedOut S.buckets site.old site.new result.conclusion.store }
-    ensures kept { is_some result.conclusion.journal ≡ is_some result.conclusion.store }
-    ensures back { IsHandedBack S.Store.contents S.Store.faults result.conclusion.journal
-        result.conclusion.store }
-    ensures asked_bucket { result.conclusion.verdict ≢ Verdict.NoMemory
-        → IsBucketAsked S.Store.asked result.conclusion.verdict result.conclusion.journal
-        result.conclusion.store }
-    ensures noted { IsNoted met_alone S.Store.asked result.conclusion.verdict
-        result.conclusion.journal result.conclusion.store result.note }
-    ensures untouched { IfSome (told_of (S.next_bucket site.old) (replay_word words.now))
-        (λ c. IsUntouched S.Store.contents c result.conclusion.journal result.conclusion.store) }
-    ensures closed { replay_word words.now ≡ None
-        → IsNotAsked S.buckets S.next_bucket site.old site.new }
-    ensures shelf { IsShelfOf S.shelves S.next_shelf S.Files.files (replay_shelf words.now)
-        site.old site.new result.shelf }
-    ensures asked { IfSome result.shelf (WasReadFor S.Files.asked (R.left script.old)) }
+    ensures { Leaves beside (outside (R.told script.old) (R.told script.new)
+        (site_call (S.told site.old) (S.told site.new) S.Store.told S.Files.told))
+        (replay_names words.now) result }
 {
     match read_replay(words) {
-        Some(named) => read_and_run(rt, alloc, gate, named.bucket, named.shelf, site, script),
+        Some(named) => read_and_run(rt, alloc, gate, &named, site, script),
         None => Ended {
             conclusion: Conclusion::without_bucket(Verdict::WordsRefused),
             shelf: None,
@@ -137,19 +73,17 @@ fn read_and_run<S: Site, R: Source, G: Gate + Sync, T: Threads + Wait + Sync>(
     rt: &T,
     alloc: Global,
     gate: &G,
-    bucket: &str,
-    shelf: &str,
+    named: &Named<'_>,
     site: &mut S,
     script: &mut R,
 ) -> Ended<S::Store, S::Files>
 where
     S::Store: Send,
-    ensures { Leaves beside (outside R.left R.faults script.old script.new
-        S.buckets S.next_bucket S.shelves S.next_shelf S.faults site.old site.new
-        S.Store.contents S.Store.faults S.Store.asked S.Files.files S.Files.faults S.Files.asked
-        bucket.now (named_by shelf.now)) result }
+    ensures { Leaves beside (outside (R.told script.old) (R.told script.new)
+        (site_call (S.told site.old) (S.told site.new) S.Store.told S.Files.told))
+        (run_names named.now.bucket.now (named_by named.now.shelf.now)) result }
 {
-    match prepare(alloc, bucket, shelf, site, script, &Beside { rt }) {
+    match prepare(alloc, named, site, script, &Beside { rt }) {
         Ok(
             Prepared {
                 script,

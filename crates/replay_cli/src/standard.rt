@@ -25,9 +25,7 @@ impl<R: Read + Drop> ReaderSource<R> {
 impl<R: Read + Drop> Source for ReaderSource<R> {
     ghost use Rattle.std.specs.Prelude.{None};
 
-    ghost left = { λ s. None };
-
-    ghost faults = { λ s. s.faults };
+    ghost told = { λ s. record { left = None; faults = s.faults } };
 
     fn read(&mut self, into: &mut [u8]) -> ReadAnswer {
         match self.reader.read(into) {
@@ -63,9 +61,7 @@ impl<W: Write + Drop> WriterSink<W> {
 impl<W: Write + Drop> Sink for WriterSink<W> {
     ghost use Rattle.std.specs.Prelude.{None};
 
-    ghost written = { λ s. None };
-
-    ghost faults = { λ s. s.faults };
+    ghost told = { λ s. record { written = None; faults = s.faults } };
 
     fn write(&mut self, bytes: &[u8]) -> WriteAnswer {
         match self.writer.write(bytes) {

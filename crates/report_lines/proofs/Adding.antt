@@ -7,8 +7,7 @@ use Rattle.std.proofs.lemmas.List.Concat.{flat_map-append}
 use Rattle.std.proofs.lemmas.List.Sums.{sum_by-append}
 use Rattle.script_core.specs.declared.script.Script.{Script}
 use Rattle.script_workers.specs.declared.task.Task.{Task}
-use Rattle.script_running.specs.Outcomes.{is_as_asked}
-use Rattle.script_running.specs.declared.outcome.Outcome.{Outcome}
+use Rattle.script_running.specs.Outcomes.{Outcome, is_as_asked}
 use Rattle.report_lines.proofs.ReportLists.{all_append}
 use Rattle.report_lines.specs.Tallies.{AddsUp, AreSums, AreTallied, IsOneMore, amiss_line, amiss_of, answers_in, cleaned_in, collected_in, compacted_in, counts_in, partials_in, plus, rounds_in, total, uploads_in}
 use Rattle.report_lines.specs.declared.sums.Sums.{Sums}

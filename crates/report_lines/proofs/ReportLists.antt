@@ -5,10 +5,9 @@ use Rattle.std.specs.List.{list_all}
 use Rattle.script_core.specs.declared.script.Script.{Script}
 use Rattle.script_workers.specs.declared.task.Task.{Task}
 use Rattle.report_lines.specs.Reports.{activity_text}
-use Rattle.script_running.specs.Outcomes.{is_as_asked}
+use Rattle.script_running.specs.Outcomes.{Outcome, is_as_asked}
 use Rattle.report_lines.specs.Telling.{report_of, tasks_of}
 use Rattle.script_workers.specs.declared.phase.Phase.{Phase}
-use Rattle.script_running.specs.declared.outcome.Outcome.{Outcome}
 
 pub all_append : (one other : List Outcome) → list_all is_as_asked (one ++ other) ≡ list_all is_as_asked one && list_all is_as_asked other
 all_append [] other = refl

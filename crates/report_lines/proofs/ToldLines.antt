@@ -5,8 +5,7 @@ use Rattle.std.specs.List.{list_all}
 use Rattle.std.proofs.lemmas.List.{length-append}
 use Rattle.script_core.specs.declared.script.Script.{Script}
 use Rattle.script_workers.specs.declared.task.Task.{Task}
-use Rattle.script_running.specs.Outcomes.{is_as_asked}
-use Rattle.script_running.specs.declared.outcome.Outcome.{Outcome}
+use Rattle.script_running.specs.Outcomes.{Outcome, is_as_asked}
 use Rattle.report_lines.specs.Reports.{activity_text}
 use Rattle.report_lines.specs.Telling.{AreLinesOf}
 use Rattle.report_lines.specs.Telling.{report_of}

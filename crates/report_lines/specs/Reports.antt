@@ -15,27 +15,28 @@ use Rattle.querier.specs.declared.answer.Names.{Names}
 use Rattle.script_core.specs.declared.script.Script.{Script}
 use Rattle.script_workers.specs.declared.work.Work.{Work}
 use Rattle.script_workers.specs.declared.work.Work.TheVariants as work
-use Rattle.script_running.specs.declared.outcome.Outcome.{Outcome}
-use Rattle.script_running.specs.declared.outcome.Outcome.TheVariants as outcome
-use Rattle.script_running.specs.declared.outcome.UploadOutcome.{UploadOutcome}
-use Rattle.script_running.specs.declared.outcome.UploadOutcome.TheVariants as upload
+use Rattle.script_running.specs.Outcomes.{Outcome}
+use Rattle.script_running.specs.declared.came.Came.TheVariants as outcome
+use Rattle.script_running.specs.declared.came.Stop.{Stop}
+use Rattle.script_running.specs.declared.came.Stop.TheVariants as stop
+use Rattle.script_running.specs.shipper.specs.declared.upload.UploadEnd.{UploadEnd}
+use Rattle.script_running.specs.shipper.specs.declared.upload.UploadEnd.TheVariants as upload
+use Rattle.script_running.specs.compactor.specs.declared.compact_end.CompactEnd.{CompactEnd}
+use Rattle.script_running.specs.compactor.specs.declared.compact_end.CompactEnd.TheVariants as compact
+use Rattle.script_running.specs.cleaner.specs.declared.clean.CleanEnd.{CleanEnd}
+use Rattle.script_running.specs.cleaner.specs.declared.clean.CleanEnd.TheVariants as clean
 use Rattle.script_running.specs.declared.outcome.SyncOutcome.{SyncOutcome}
 use Rattle.script_running.specs.declared.outcome.SyncOutcome.TheVariants as sync
-use Rattle.script_running.specs.declared.outcome.CompactOutcome.{CompactOutcome}
-use Rattle.script_running.specs.declared.outcome.CompactOutcome.TheVariants as compact
-use Rattle.script_running.specs.declared.outcome.CleanOutcome.{CleanOutcome}
-use Rattle.script_running.specs.declared.outcome.CleanOutcome.TheVariants as clean
 use Rattle.script_running.specs.declared.outcome.QueryOutcome.{QueryOutcome}
 use Rattle.script_running.specs.declared.outcome.QueryOutcome.TheVariants as query
 use Rattle.script_running.specs.declared.outcome.NoAnswer.{NoAnswer}
 use Rattle.script_running.specs.declared.outcome.NoAnswer.TheVariants as none
 
-unfoldable pub upload_words : UploadOutcome → List ℕ
-upload_words (upload.Done count) = codes "ok " ++ decimal_text count ++ codes " objects"
-upload_words upload.Already = codes "already"
-upload_words (upload.Fault entry) = codes "fault " ++ decimal_text entry
-upload_words (upload.Refused cause) = codes "refused " ++ decimal_text cause
-upload_words (upload.Stopped count) = codes "stopped " ++ decimal_text count
+unfoldable pub upload_words : Stop UploadEnd → List ℕ
+upload_words (stop.Ended (upload.Done count)) = codes "ok " ++ decimal_text count ++ codes " objects"
+upload_words (stop.Ended upload.Already) = codes "already"
+upload_words (stop.Ended (upload.Fault entry)) = codes "fault " ++ decimal_text entry
+upload_words (stop.At count) = codes "stopped " ++ decimal_text count
 
 unfoldable pub sync_words : SyncOutcome → List ℕ
 sync_words (sync.Blocks count) = decimal_text count ++ codes " blocks"
@@ -48,23 +49,23 @@ abbrev pub expired_words : Bool → ℕ → List ℕ
 expired_words true expired = codes " expired " ++ decimal_text expired
 expired_words false expired = []
 
-unfoldable pub compact_words : Bool → CompactOutcome → List ℕ
-compact_words retains (compact.Done collected compacted expired) =
+unfoldable pub compact_words : Bool → Stop CompactEnd → List ℕ
+compact_words retains (stop.Ended (compact.Done collected compacted expired)) =
     codes "collected " ++ decimal_text collected ++ codes " compacted " ++ decimal_text compacted
     ++ expired_words retains expired
-compact_words retains (compact.Fault entry) = codes "fault " ++ decimal_text entry
-compact_words retains (compact.Missing entry) = codes "missing " ++ decimal_text entry
-compact_words retains (compact.Damaged entry) = codes "damaged " ++ decimal_text entry
-compact_words retains compact.TooMany = codes "too many"
-compact_words retains compact.TooLarge = codes "too large"
-compact_words retains (compact.Stopped count) = codes "stopped " ++ decimal_text count
+compact_words retains (stop.Ended (compact.Fault entry)) = codes "fault " ++ decimal_text entry
+compact_words retains (stop.Ended (compact.Missing entry)) = codes "missing " ++ decimal_text entry
+compact_words retains (stop.Ended (compact.Damaged entry)) = codes "damaged " ++ decimal_text entry
+compact_words retains (stop.Ended compact.TooMany) = codes "too many"
+compact_words retains (stop.Ended compact.TooLarge) = codes "too large"
+compact_words retains (stop.At count) = codes "stopped " ++ decimal_text count
 
-unfoldable pub clean_words : CleanOutcome → List ℕ
-clean_words (clean.Done blocks partials) = codes "blocks " ++ decimal_text blocks ++ codes " partials " ++ decimal_text partials
-clean_words (clean.Fault entry) = codes "fault " ++ decimal_text entry
-clean_words (clean.Damaged entry) = codes "damaged " ++ decimal_text entry
-clean_words clean.TooMany = codes "too many"
-clean_words (clean.Stopped count) = codes "stopped " ++ decimal_text count
+unfoldable pub clean_words : Stop CleanEnd → List ℕ
+clean_words (stop.Ended (clean.Done blocks partials)) = codes "blocks " ++ decimal_text blocks ++ codes " partials " ++ decimal_text partials
+clean_words (stop.Ended (clean.Fault entry)) = codes "fault " ++ decimal_text entry
+clean_words (stop.Ended (clean.Damaged entry)) = codes "damaged " ++ decimal_text entry
+clean_words (stop.Ended clean.TooMany) = codes "too many"
+clean_words (stop.At count) = codes "stopped " ++ decimal_text count
 
 unfoldable pub no_answer_words : NoAnswer → List ℕ
 no_answer_words none.NoView = codes "no view"
@@ -124,16 +125,23 @@ query_text script (query.Answer answer names) =
     if are_parted script then parted_text script answer.series names else answer_text answer.series answer.sources
 query_text script (query.NoAnswer gateway why) = gateway_name script gateway ++ codes " " ++ no_answer_words why ++ newline
 
-abbrev pub upload_line : ℕ → UploadOutcome → List ℕ
-upload_line ulid end = codes "upload " ++ text_of ulid ++ codes ": " ++ upload_words end ++ newline
+abbrev pub upload_of : ℕ → List ℕ
+upload_of ulid = codes "upload " ++ text_of ulid ++ codes ": "
+
+abbrev pub upload_line : ℕ → Stop UploadEnd → List ℕ
+upload_line ulid end = upload_of ulid ++ upload_words end ++ newline
+
+-- the line of an upload whose block is not shipped
+abbrev pub unshipped_line : ℕ → ℕ → List ℕ
+unshipped_line ulid cause = upload_of ulid ++ codes "refused " ++ decimal_text cause ++ newline
 
 abbrev pub sync_line : List ℕ → SyncOutcome → List ℕ
 sync_line name end = codes "sync " ++ name ++ codes ": " ++ sync_words end ++ newline
 
-abbrev pub compact_line : Bool → CompactOutcome → List ℕ
+abbrev pub compact_line : Bool → Stop CompactEnd → List ℕ
 compact_line retains end = codes "compact: " ++ compact_words retains end ++ newline
 
-abbrev pub clean_line : CleanOutcome → List ℕ
+abbrev pub clean_line : Stop CleanEnd → List ℕ
 clean_line end = codes "clean: " ++ clean_words end ++ newline
 
 abbrev pub query_line : Script → ℤ → ℤ → QueryOutcome → List ℕ
@@ -142,9 +150,10 @@ query_line script low high end =
 
 -- the lines of one activity
 unfoldable pub activity_text : Script → Work → Outcome → List ℕ
-activity_text script (work.Upload ulid stop) (outcome.Upload end) = upload_line ulid end
+activity_text script (work.Upload ulid count) (outcome.Upload end) = upload_line ulid end
+activity_text script (work.Upload ulid count) (outcome.Unshipped cause) = unshipped_line ulid cause
 activity_text script (work.Sync gateway) (outcome.Sync end) = sync_line (gateway_name script gateway) end
-activity_text script (work.Compact stop) (outcome.Compact end) = compact_line (is_some script.rules.retention) end
-activity_text script (work.Clean stop) (outcome.Clean end) = clean_line end
+activity_text script (work.Compact count) (outcome.Compact end) = compact_line (is_some script.rules.retention) end
+activity_text script (work.Clean count) (outcome.Clean end) = clean_line end
 activity_text script (work.Query low high selector) (outcome.Query end) = query_line script low high end
 activity_text script other end = []

@@ -12,7 +12,7 @@ use Rattle.script_core.specs.declared.body.Body.{Body}
 use Rattle.script_core.specs.declared.body.Body.TheVariants.{Inline, OnShelf}
 use Rattle.script_core.specs.declared.script.Script.{Script}
 use Rattle.script_workers.specs.declared.task.Task.{Task}
-use Rattle.script_running.specs.declared.outcome.Outcome.{Outcome}
+use Rattle.script_running.specs.Outcomes.{Outcome}
 use Rattle.generated_day.specs.Summaries.{summary_text}
 use Rattle.generated_day.specs.declared.summary.QueryCounts.{QueryCounts}
 use Rattle.generated_day.specs.declared.summary.Summary.{Summary}

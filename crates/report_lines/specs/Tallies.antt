@@ -6,12 +6,12 @@ use Rattle.querier.specs.declared.answer.Answer.{Answer}
 use Rattle.script_core.specs.declared.script.Script.{Script}
 use Rattle.script_workers.specs.declared.task.Task.{Task}
 use Rattle.script_workers.specs.declared.work.Work.{Work}
-use Rattle.script_running.specs.Outcomes.{is_as_asked}
-use Rattle.script_running.specs.declared.outcome.Outcome.{Outcome}
-use Rattle.script_running.specs.declared.outcome.Outcome.TheVariants as outcome
-use Rattle.script_running.specs.declared.outcome.UploadOutcome.TheVariants as upload
-use Rattle.script_running.specs.declared.outcome.CompactOutcome.TheVariants as compact
-use Rattle.script_running.specs.declared.outcome.CleanOutcome.TheVariants as clean
+use Rattle.script_running.specs.Outcomes.{Outcome, is_as_asked}
+use Rattle.script_running.specs.declared.came.Came.TheVariants as outcome
+use Rattle.script_running.specs.declared.came.Stop.TheVariants as stop
+use Rattle.script_running.specs.shipper.specs.declared.upload.UploadEnd.TheVariants as upload
+use Rattle.script_running.specs.compactor.specs.declared.compact_end.CompactEnd.TheVariants as compact
+use Rattle.script_running.specs.cleaner.specs.declared.clean.CleanEnd.TheVariants as clean
 use Rattle.script_running.specs.declared.outcome.QueryOutcome.TheVariants as query
 use Rattle.report_lines.specs.Reports.{activity_text}
 use Rattle.generated_day.specs.declared.summary.QueryCounts.{QueryCounts}
@@ -22,7 +22,7 @@ use Rattle.report_lines.specs.declared.tally.Tally.{Tally}
 
 -- an upload that put its block
 abbrev pub uploads_in : Outcome → ℕ
-uploads_in (outcome.Upload (upload.Done count)) = 1
+uploads_in (outcome.Upload (stop.Ended (upload.Done count))) = 1
 uploads_in other = 0
 
 -- a round of compaction, however it ended
@@ -32,22 +32,22 @@ rounds_in other = 0
 
 -- the blocks that it made
 abbrev pub compacted_in : Outcome → ℕ
-compacted_in (outcome.Compact (compact.Done collected compacted expired)) = compacted
+compacted_in (outcome.Compact (stop.Ended (compact.Done collected compacted expired))) = compacted
 compacted_in other = 0
 
 -- the covered blocks that it marked
 abbrev pub collected_in : Outcome → ℕ
-collected_in (outcome.Compact (compact.Done collected compacted expired)) = collected
+collected_in (outcome.Compact (stop.Ended (compact.Done collected compacted expired))) = collected
 collected_in other = 0
 
 -- the blocks that a cleaning deleted
 abbrev pub cleaned_in : Outcome → ℕ
-cleaned_in (outcome.Clean (clean.Done blocks partials)) = blocks
+cleaned_in (outcome.Clean (stop.Ended (clean.Done blocks partials))) = blocks
 cleaned_in other = 0
 
 -- the blocks without a meta that it deleted
 abbrev pub partials_in : Outcome → ℕ
-partials_in (outcome.Clean (clean.Done blocks partials)) = partials
+partials_in (outcome.Clean (stop.Ended (clean.Done blocks partials))) = partials
 partials_in other = 0
 
 abbrev pub counts_of : Answer → QueryCounts

@@ -5,8 +5,7 @@ use Rattle.script_core.specs.declared.script.Script.{Script}
 use Rattle.script_workers.specs.declared.phase.Phase.{Phase}
 use Rattle.script_workers.specs.declared.task.Task.{Task}
 use Rattle.report_lines.specs.Reports.{activity_text}
-use Rattle.script_running.specs.Outcomes.{is_as_asked}
-use Rattle.script_running.specs.declared.outcome.Outcome.{Outcome}
+use Rattle.script_running.specs.Outcomes.{Outcome, is_as_asked}
 use Rattle.report_lines.specs.declared.lines.Lines.{Lines}
 
 -- the tasks of phases, one after another

@@ -6,7 +6,7 @@ pub trait PhaseReport: Report {
     ghost use Rattle.std.specs.Prelude.{◌≢◌, ◌++◌, [], List, Err, OnErr, OnOk};
     ghost use Rattle.script_core.specs.declared.script.Script.{Script};
     ghost use Rattle.script_workers.specs.declared.task.Task.{Task};
-    ghost use Rattle.script_running.specs.declared.outcome.Outcome.{Outcome};
+    ghost use Rattle.script_running.specs.Outcomes.{Outcome};
 
     /// A report that tells of nothing.
     fn empty(alloc: Global) -> Self

@@ -9,7 +9,7 @@ ghost use Rattle.ulid_core.specs.UlidText.{text_of};
 ghost use Rattle.label_sets.specs.Counts.{sample_count};
 ghost use Rattle.script_fields.specs.Limits.{longest_sample};
 ghost use Rattle.report_lines.specs.CheckLines.{check_line};
-ghost use Rattle.report_lines.specs.Reports.{activity_text, gateway_name, upload_line, sync_line, compact_line, expired_words, clean_line, query_line, query_text, no_answer_words, answer_text, parted_text, counts_text, source_line, named_line, named_lines, named_count, is_part, series_line};
+ghost use Rattle.report_lines.specs.Reports.{activity_text, gateway_name, upload_line, upload_of, unshipped_line, sync_line, compact_line, expired_words, clean_line, query_line, query_text, no_answer_words, answer_text, parted_text, counts_text, source_line, named_line, named_lines, named_count, is_part, series_line};
 ghost use Rattle.report_lines.specs.BreachLines.{between, breach_line, breach_text, rule_word};
 
 use crate::SeriesWay;
@@ -21,7 +21,7 @@ use moment_core::Partition;
 use querier::{Names, NamesList};
 use script_core::{LONGEST_SAMPLE, Script, Task, Work};
 use script_running::{
-    CleanOutcome, CompactOutcome, NoAnswer, Outcome, QueryOutcome, SyncOutcome, UploadOutcome,
+    Came, CleanEnd, CompactEnd, NoAnswer, Outcome, QueryOutcome, Stop, SyncOutcome, UploadEnd,
 };
 use ulid_core::{Ulid, UlidList};
 
@@ -39,15 +39,16 @@ pub fn put_activity<W: SeriesWay>(
         (out.new.items ≡ out.old.items ++ activity_text script.now task.now.work outcome.now) }
 {
     match (&task.work, outcome) {
-        (Work::Upload(ulid, _), Outcome::Upload(end)) => put_upload(out, *ulid, end),
-        (Work::Sync(gateway), Outcome::Sync(end)) => {
+        (Work::Upload(ulid, _), Came::Upload(end)) => put_upload(out, *ulid, end),
+        (Work::Upload(ulid, _), Came::Unshipped(cause)) => put_unshipped(out, *ulid, *cause),
+        (Work::Sync(gateway), Came::Sync(end)) => {
             put_sync(out, gateway_name(script, *gateway), end)
         }
-        (Work::Compact(_), Outcome::Compact(end)) => {
+        (Work::Compact(_), Came::Compact(end)) => {
             put_compact(out, script.rules.retention.is_some(), end)
         }
-        (Work::Clean(_), Outcome::Clean(end)) => put_clean(out, end),
-        (Work::Query { low, high, .. }, Outcome::Query(end)) => {
+        (Work::Clean(_), Came::Clean(end)) => put_clean(out, end),
+        (Work::Query { low, high, .. }, Came::Query(end)) => {
             put_query(out, script, *low, *high, end, way)
         }
         _ => Ok(()),
@@ -99,20 +100,36 @@ pub fn put_check(out: &mut Vec<u8>, block: Ulid, outcome: CheckOutcome) -> Resul
 }
 
 #[tactic(auto, unfolding(crate::specs::Reports::upload_words))]
-fn put_upload(out: &mut Vec<u8>, ulid: Ulid, end: &UploadOutcome) -> Result<(), NoMemory>
+fn put_upload(out: &mut Vec<u8>, ulid: Ulid, end: &Stop<UploadEnd>) -> Result<(), NoMemory>
     ensures { OnOk result (out.new.items ≡ out.old.items ++ upload_line ulid end.now) }
+{
+    put_upload_of(out, ulid)?;
+    match end {
+        Stop::Ended(UploadEnd::Done(count)) => {
+            put_numbered(out, "ok ", u64::from(*count), " objects")?
+        }
+        Stop::Ended(UploadEnd::Already) => put_text(out, "already")?,
+        Stop::Ended(UploadEnd::Fault(entry)) => put_numbered(out, "fault ", *entry, "")?,
+        Stop::At(count) => put_numbered(out, "stopped ", u64::from(*count), "")?,
+    }
+    put_text(out, "\n")
+}
+
+/// Appends the line of an upload whose block is not shipped, for the cause of this number.
+fn put_unshipped(out: &mut Vec<u8>, ulid: Ulid, cause: u32) -> Result<(), NoMemory>
+    ensures { OnOk result (out.new.items ≡ out.old.items ++ unshipped_line ulid cause) }
+{
+    put_upload_of(out, ulid)?;
+    put_numbered(out, "refused ", u64::from(cause), "\n")
+}
+
+/// Appends what the line of a block's upload begins with.
+fn put_upload_of(out: &mut Vec<u8>, ulid: Ulid) -> Result<(), NoMemory>
+    ensures { OnOk result (out.new.items ≡ out.old.items ++ upload_of ulid) }
 {
     put_text(out, "upload ")?;
     ulid.put_text(out)?;
-    put_text(out, ": ")?;
-    match end {
-        UploadOutcome::Done(count) => put_numbered(out, "ok ", u64::from(*count), " objects")?,
-        UploadOutcome::Already => put_text(out, "already")?,
-        UploadOutcome::Fault(entry) => put_numbered(out, "fault ", *entry, "")?,
-        UploadOutcome::Refused(cause) => put_numbered(out, "refused ", u64::from(*cause), "")?,
-        UploadOutcome::Stopped(count) => put_numbered(out, "stopped ", u64::from(*count), "")?,
-    }
-    put_text(out, "\n")
+    put_text(out, ": ")
 }
 
 #[tactic(auto, unfolding(crate::specs::Reports::sync_words))]
@@ -133,26 +150,28 @@ fn put_sync(out: &mut Vec<u8>, name: &str, end: &SyncOutcome) -> Result<(), NoMe
 
 /// Appends the line of a compaction, which tells of expired blocks where the script sets a retention.
 #[tactic(auto, unfolding(crate::specs::Reports::compact_words))]
-fn put_compact(out: &mut Vec<u8>, retains: bool, end: &CompactOutcome) -> Result<(), NoMemory>
+fn put_compact(out: &mut Vec<u8>, retains: bool, end: &Stop<CompactEnd>) -> Result<(), NoMemory>
     ensures { OnOk result (out.new.items ≡ out.old.items ++ compact_line retains end.now) }
 {
     put_text(out, "compact: ")?;
     match end {
-        CompactOutcome::Done {
-            collected,
-            compacted,
-            expired,
-        } => {
+        Stop::Ended(
+            CompactEnd::Done {
+                collected,
+                compacted,
+                expired,
+            },
+        ) => {
             put_numbered(out, "collected ", *collected, " compacted ")?;
             put_unsigned(out, *compacted)?;
             put_expired(out, retains, *expired)?;
         }
-        CompactOutcome::Fault(entry) => put_numbered(out, "fault ", *entry, "")?,
-        CompactOutcome::Missing(entry) => put_numbered(out, "missing ", *entry, "")?,
-        CompactOutcome::Damaged(entry) => put_numbered(out, "damaged ", *entry, "")?,
-        CompactOutcome::TooMany => put_text(out, "too many")?,
-        CompactOutcome::TooLarge => put_text(out, "too large")?,
-        CompactOutcome::Stopped(count) => put_numbered(out, "stopped ", u64::from(*count), "")?,
+        Stop::Ended(CompactEnd::Fault(entry)) => put_numbered(out, "fault ", *entry, "")?,
+        Stop::Ended(CompactEnd::Missing(entry)) => put_numbered(out, "missing ", *entry, "")?,
+        Stop::Ended(CompactEnd::Damaged(entry)) => put_numbered(out, "damaged ", *entry, "")?,
+        Stop::Ended(CompactEnd::TooMany) => put_text(out, "too many")?,
+        Stop::Ended(CompactEnd::TooLarge) => put_text(out, "too large")?,
+        Stop::At(count) => put_numbered(out, "stopped ", u64::from(*count), "")?,
     }
     put_text(out, "\n")
 }
@@ -168,19 +187,19 @@ fn put_expired(out: &mut Vec<u8>, retains: bool, expired: u64) -> Result<(), NoM
 }
 
 #[tactic(auto, unfolding(crate::specs::Reports::clean_words))]
-fn put_clean(out: &mut Vec<u8>, end: &CleanOutcome) -> Result<(), NoMemory>
+fn put_clean(out: &mut Vec<u8>, end: &Stop<CleanEnd>) -> Result<(), NoMemory>
     ensures { OnOk result (out.new.items ≡ out.old.items ++ clean_line end.now) }
 {
     put_text(out, "clean: ")?;
     match end {
-        CleanOutcome::Done { blocks, partials } => {
+        Stop::Ended(CleanEnd::Done { blocks, partials }) => {
             put_numbered(out, "blocks ", *blocks, " partials ")?;
             put_unsigned(out, *partials)?;
         }
-        CleanOutcome::Fault(entry) => put_numbered(out, "fault ", *entry, "")?,
-        CleanOutcome::Damaged(entry) => put_numbered(out, "damaged ", *entry, "")?,
-        CleanOutcome::TooMany => put_text(out, "too many")?,
-        CleanOutcome::Stopped(count) => put_numbered(out, "stopped ", u64::from(*count), "")?,
+        Stop::Ended(CleanEnd::Fault(entry)) => put_numbered(out, "fault ", *entry, "")?,
+        Stop::Ended(CleanEnd::Damaged(entry)) => put_numbered(out, "damaged ", *entry, "")?,
+        Stop::Ended(CleanEnd::TooMany) => put_text(out, "too many")?,
+        Stop::At(count) => put_numbered(out, "stopped ", u64::from(*count), "")?,
     }
     put_text(out, "\n")
 }

@@ -3,7 +3,7 @@
 ghost use Rattle.std.specs.Prelude.{◌≡◌, ◌++◌, ◌^◌, ◌-◌, min, List, [], ◌∷◌, length, slice_index_or, IfOk, OnOk};
 ghost use Rattle.std.specs.List.{sum_by};
 ghost use Rattle.label_sets.specs.declared.label.Label.{Label};
-ghost use Rattle.script_running.specs.declared.outcome.Outcome.{Outcome};
+ghost use Rattle.script_running.specs.Outcomes.{Outcome};
 ghost use Rattle.report_lines.specs.Summed.{HasEach, IsSummary, all_seen, each_once, no_counts, own_series, samples_in, seen_in};
 ghost use Rattle.report_lines.specs.Tallies.{AreSums, answers_in};
 

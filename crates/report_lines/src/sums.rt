@@ -7,7 +7,7 @@ use base::NoMemory;
 use generated_day::QueryCounts;
 use label_sets::sample_count;
 use querier::Answer;
-use script_running::{CleanOutcome, CompactOutcome, Outcome, QueryOutcome, UploadOutcome};
+use script_running::{Came, CleanEnd, CompactEnd, Outcome, QueryOutcome, Stop, UploadEnd};
 
 /// What activities add up to. A number stands still at the end of 64 bits.
 #[derive(Clone, Copy, Debug, PartialEq, Eq)]
@@ -57,16 +57,20 @@ pub(crate) fn added_by(outcome: &Outcome) -> Sums
     ensures { IsOneMore outcome.now result }
 {
     match outcome {
-        Outcome::Upload(UploadOutcome::Done(_)) => uploads(1),
-        Outcome::Compact(
-            CompactOutcome::Done {
-                collected,
-                compacted,
-                ..
-            },
+        Came::Upload(Stop::Ended(UploadEnd::Done(_))) => uploads(1),
+        Came::Compact(
+            Stop::Ended(
+                CompactEnd::Done {
+                    collected,
+                    compacted,
+                    ..
+                },
+            ),
         ) => round(*compacted, *collected),
-        Outcome::Compact(_) => round(0, 0),
-        Outcome::Clean(CleanOutcome::Done { blocks, partials }) => cleaning(*blocks, *partials),
+        Came::Compact(_) => round(0, 0),
+        Came::Clean(Stop::Ended(CleanEnd::Done { blocks, partials })) => {
+            cleaning(*blocks, *partials)
+        }
         _ => uploads(0),
     }
 }
@@ -130,7 +134,7 @@ pub(crate) fn put_counts(out: &mut Vec<QueryCounts>, outcome: &Outcome) -> Resul
     ensures { OnOk result (out.new.items ≡ out.old.items ++ counts_in outcome.now) }
 {
     match outcome {
-        Outcome::Query(QueryOutcome::Answer(answer, _)) => {
+        Came::Query(QueryOutcome::Answer(answer, _)) => {
             out.push(counts_of(answer))?;
             Ok(())
         }

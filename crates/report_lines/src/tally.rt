@@ -4,8 +4,7 @@
 ghost use Rattle.std.specs.Prelude.{◌≡◌, ◌≢◌, ◌++◌, ◌&&◌, [], List, Err, IfOk, OnErr, OnOk, true};
 ghost use Rattle.script_core.specs.declared.script.Script.{Script};
 ghost use Rattle.script_workers.specs.declared.task.Task.{Task};
-ghost use Rattle.script_running.specs.Outcomes.{is_as_asked};
-ghost use Rattle.script_running.specs.declared.outcome.Outcome.{Outcome};
+ghost use Rattle.script_running.specs.Outcomes.{Outcome, is_as_asked};
 ghost use Rattle.report_lines.specs.Summed.{IsDayText};
 ghost use Rattle.report_lines.specs.Tallies.{AddsUp, AreTallied, IsOneMore, amiss_line, counts_in};
 

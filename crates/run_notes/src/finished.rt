@@ -69,7 +69,7 @@ impl<B: Bucket> Finished<B> {
         ensures note { result.0 ≡ self.note }
         ensures journal { result.1 ≡ self.world.journal }
         ensures bucket { result.2 ≡ self.world.bucket }
-        ensures holds { IsWorld B.contents B.faults self.world }
+        ensures holds { IsWorld B.told self.world }
     {
         let Finished { world, note } = self;
         let (journal, bucket) = world.into_parts();

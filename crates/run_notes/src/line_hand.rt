@@ -26,6 +26,7 @@ impl<B: Bucket> LineHand<B> {
     /// A hand at seat 0, which has been refused nothing yet, and has wanted no memory.
     pub fn new(world: World<B>) -> Self
         ensures world { result.world ≡ world }
+        ensures seat { result.seat ≡ 0 }
         ensures opened { result.opened.value ≡ world }
         ensures refused { result.refused ≡ false }
         ensures wanted { result.wanted ≡ false }
@@ -94,35 +95,33 @@ impl<B: Bucket> LineHand<B> {
 }
 
 impl<B: Bucket> Hand for LineHand<B> {
-    ghost use Rattle.std.specs.Prelude.{◌≡◌, ◌⊎◌, ◌++◌, ◌||◌, IsTrue, Some};
+    ghost use Rattle.std.specs.Prelude.{◌≡◌, ◌⊎◌, ◌++◌, ◌||◌, ◌<◌, ◌≤◌, IsTrue, Some, length};
     ghost use Rattle.world_core.specs.Keeping.{IsFull};
-    ghost use Rattle.world_core.specs.Machines.{gained, IfDone, is_full};
+    ghost use Rattle.world_core.specs.Machines.{gained, IfDone, is_full, is_wanting};
     ghost use Rattle.world_core.specs.Operations.{IsLawful, IsAnswer};
-    ghost use Rattle.world_turn.specs.Turns.{is_wanting};
     ghost use Rattle.run_notes.specs.LineHands.{KeepsRun, keeps_run-none, keeps_run-more};
 
-    ghost entries = { λ hand. hand.world.journal };
+    ghost told = { λ hand. record {
+      entries = hand.world.journal;
+      seat = hand.seat;
+      front = Some hand.world.journal;
+      known = length hand.world.journal;
+      refused = hand.refused;
+      wanted = hand.wanted;
+    } };
 
-    ghost seat = { λ hand. hand.seat };
-
-    ghost front = { λ hand. Some hand.world.journal };
-
-    ghost refused = { λ hand. hand.refused };
-
-    ghost wanted = { λ hand. hand.wanted };
-
-    ghost keeps = { λ old new. KeepsRun B.faults B.quiet B.asked old.opened.value old.wanted
+    ghost keeps = { λ old new. KeepsRun B.told old.opened.value old.wanted
         old.world new.opened.value new.wanted new.world };
 
-    ghost keeps_none = { λ hand. keeps_run-none B.faults B.quiet B.asked hand.opened.value
+    ghost keeps_none = { λ hand. keeps_run-none B.told hand.opened.value
         hand.wanted hand.world };
 
-    ghost keeps_more = { λ first next last one two. keeps_run-more B.faults B.quiet B.asked
+    ghost keeps_more = { λ first next last one two. keeps_run-more B.told
         first.opened.value next.opened.value last.opened.value first.wanted next.wanted
         last.wanted first.world next.world last.world one two };
 
     /// It says what every hand says, and that it notes want of memory just where an operation is answered so (`wanting`).
-    #[tactic(auto, using(world_core::proofs::GoingOn::acted_goes_on))]
+    #[tactic(auto, using(world_core::proofs::GoingOn::acted_goes_on, world_core::proofs::Numbers::above, world_core::proofs::Numbers::within, world_core::proofs::Numbers::later))]
     fn act(&mut self, op: Op) -> Acted
         requires { IsLawful op }
         ensures entries { self.new.world.journal
@@ -135,8 +134,11 @@ impl<B: Bucket> Hand for LineHand<B> {
         ensures wanted { IsTrue self.new.wanted
             → IsTrue self.old.wanted ⊎ (result ≡ Acted.NoMemory) }
         ensures wanting { self.new.wanted ≡ (self.old.wanted || is_wanting result) }
-        ensures keeps { KeepsRun B.faults B.quiet B.asked self.old.opened.value self.old.wanted
+        ensures keeps { KeepsRun B.told self.old.opened.value self.old.wanted
             self.old.world self.new.opened.value self.new.wanted self.new.world }
+        ensures above { IfDone result (λ seen. length self.old.world.journal < seen.seq) }
+        ensures within { IfDone result (λ seen. seen.seq ≤ length self.new.world.journal) }
+        ensures known { length self.old.world.journal ≤ length self.new.world.journal }
     {
         let acted = self.world.act(self.seat, op);
         match acted {
@@ -145,5 +147,9 @@ impl<B: Bucket> Hand for LineHand<B> {
             Acted::Done(_) => {}
         }
         acted
+    }
+
+    fn look(&mut self) -> u64 {
+        self.world.journal().len()
     }
 }

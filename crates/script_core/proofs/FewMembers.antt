@@ -258,3 +258,7 @@ spelled_few text script spells =
 pub few_of : (text : List ℕ) (result : Result Script _) → GivesUnless (IsWholeGivenUp text) (λ (script : Script). script) result (script_of text) → IfOk result (λ script. members_of_script script ≤ length text)
 few_of text (Ok script) read = spelled_few text script (found_of text (Ok script) read)
 few_of text (Err refusal) read = tt
+
+pub few_end : {E : Type 0} (text : List ℕ) (result : Result Script E) → IfOk result (λ script. Spells text script) → IfOk result (λ script. members_of_script script ≤ length text)
+few_end text (Ok script) spells = spelled_few text script spells
+few_end text (Err refusal) spells = tt

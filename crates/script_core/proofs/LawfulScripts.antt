@@ -33,7 +33,7 @@ use Rattle.script_fields.specs.Fields.{lines_of, is_silent}
 use Rattle.script_workers.specs.Hands.{gateway_count, hands_of, hands_from}
 use Rattle.script_core.specs.State.{gateway_named}
 use Rattle.script_fields.specs.Values.{with_rule, agree}
-use Rattle.script_workers.specs.Works.{works_in, works_of, has_sync, is_compaction, has_compaction, CompactOnce}
+use Rattle.script_workers.specs.Works.{works_in, works_of, asks_all, has_sync, is_compaction, has_compaction, CompactOnce}
 use Rattle.script_core.specs.Lawful.{AreLawfulRules, AreLawfulLabels, HasLawfulSamples, IsLawfulInline, HasSeries, IsLawfulBlock, AreLawfulBlocks, IsLawfulRetention, IsLawfulStop, IsLawfulWork, IsLawfulPhase, AreLawfulPhases, IsLawfulPartition, IsLawfulSelector, IsLawfulScript}
 use Rattle.script_core.specs.Spelling as spelling
 use Rattle.script_core.specs.Spelling.{SoFar, HasEnded, IsValueText, AreSampleFields, RuleLine, ReplicaLine, KeepsFor, RetentionLine, ArePartitionTexts, GatewayLine, BlockLine, ShelfLine, SeriesLine, AtLine, AddsTask, AreStopTexts, UploadLine, SyncLine, CompactLine, CleanLine, QueryLine, Says, Say, Spells}
@@ -68,7 +68,7 @@ no_phases gateways blocks selectors = record {
   each = All-nil (IsLawfulPhase gateways blocks selectors);
   moments = λ i j d below inside. absurd (omega arith);
   few_tasks = omega arith;
-  synced = λ before after low high selector gateway is below. absurd (nil_not_middle (Query low high selector) before after is);
+  synced = λ before after work gateway is asks below. absurd (nil_not_middle work before after is);
 }
 
 early_phases : (gateways : List (List ℕ)) (blocks : List Block) (selectors : ℕ) (phases : List Phase) → phases ≡ [] → AreLawfulPhases gateways blocks selectors phases
@@ -305,7 +305,7 @@ phase_keeps gateways blocks selectors phases phase lawful none below later =
       });
       moments = moments_push phases phase lawful.moments later;
       few_tasks = subst (λ works. length works ≤ most_tasks) (sym same) lawful.few_tasks;
-      synced = λ before after low high selector gateway is inside. lawful.synced before after low high selector gateway (sym same ∙ is) inside;
+      synced = λ before after one gateway is asks inside. lawful.synced before after one gateway (sym same ∙ is) asks inside;
     }
 
 -- phases whose last has another list of tasks have the same moments
@@ -327,20 +327,20 @@ same_moments others one other same moments i j d below inside =
     let old = moments i j d below within in
     omega (arith, old, same_moment others one other same i d (omega arith), same_moment others one other same j d within)
 
--- a query among the tasks with one more
-sync_by : (gateways : ℕ) (works : List Work) (work : Work) → ((before after : List Work) (low high : ℤ) (selector gateway : ℕ) → works ≡ before ++ Query low high selector ∷ after → gateway < gateways → has_sync before gateway ≡ true) → ((low high : ℤ) (selector gateway : ℕ) → work ≡ Query low high selector → gateway < gateways → has_sync works gateway ≡ true) → (before after : List Work) (low high : ℤ) (selector gateway : ℕ) → works ++ work ∷ [] ≡ before ++ Query low high selector ∷ after → gateway < gateways → has_sync before gateway ≡ true
-sync_by gateways works work old new before after low high selector gateway is inside =
+-- what asks all gateways among the tasks with one more
+sync_by : (gateways : ℕ) (works : List Work) (work : Work) → ((before after : List Work) (one : Work) (gateway : ℕ) → works ≡ before ++ one ∷ after → asks_all one ≡ true → gateway < gateways → has_sync before gateway ≡ true) → ((gateway : ℕ) → asks_all work ≡ true → gateway < gateways → has_sync works gateway ≡ true) → (before after : List Work) (one : Work) (gateway : ℕ) → works ++ work ∷ [] ≡ before ++ one ∷ after → asks_all one ≡ true → gateway < gateways → has_sync before gateway ≡ true
+sync_by gateways works work old new before after one gateway is asks inside =
     elim (last_or_none after) [
       | inl none ↦
-          let p = same_from_push works before work (Query low high selector) (is ∙ ap (λ rest. before ++ Query low high selector ∷ rest) none) in
-          subst (λ (ws : List Work). has_sync ws gateway ≡ true) p.0 (new low high selector gateway p.1 inside)
+          let p = same_from_push works before work one (is ∙ ap (λ rest. before ++ one ∷ rest) none) in
+          subst (λ (ws : List Work). has_sync ws gateway ≡ true) p.0 (new gateway (ap asks_all p.1 ∙ asks) inside)
       | inr more ↦
-          let regrouped : before ++ Query low high selector ∷ after ≡ (before ++ Query low high selector ∷ more.0) ++ more.1 ∷ [] = ap (λ rest. before ++ Query low high selector ∷ rest) more.2 ∙ sym (append_assoc before (Query low high selector ∷ more.0) (more.1 ∷ [])) in
-          let p = same_from_push works (before ++ Query low high selector ∷ more.0) work more.1 (is ∙ regrouped) in
-          old before more.0 low high selector gateway p.0 inside
+          let regrouped : before ++ one ∷ after ≡ (before ++ one ∷ more.0) ++ more.1 ∷ [] = ap (λ rest. before ++ one ∷ rest) more.2 ∙ sym (append_assoc before (one ∷ more.0) (more.1 ∷ [])) in
+          let p = same_from_push works (before ++ one ∷ more.0) work more.1 (is ∙ regrouped) in
+          old before more.0 one gateway p.0 asks inside
     ]
 
-task_keeps : (before after : Script) (selectors number : ℕ) (work : Work) → AreLawfulPhases before.gateways before.blocks selectors before.phases → (adds : AddsTask before number work after) → IsLawfulWork before.gateways before.blocks selectors work → (is_compaction work ≡ true → has_compaction adds.phase.tasks ≡ false) → ((low high : ℤ) (selector gateway : ℕ) → work ≡ Query low high selector → gateway < length before.gateways → has_sync (works_of before.phases) gateway ≡ true) → AreLawfulPhases before.gateways before.blocks selectors after.phases
+task_keeps : (before after : Script) (selectors number : ℕ) (work : Work) → AreLawfulPhases before.gateways before.blocks selectors before.phases → (adds : AddsTask before number work after) → IsLawfulWork before.gateways before.blocks selectors work → (is_compaction work ≡ true → has_compaction adds.phase.tasks ≡ false) → ((gateway : ℕ) → asks_all work ≡ true → gateway < length before.gateways → has_sync (works_of before.phases) gateway ≡ true) → AreLawfulPhases before.gateways before.blocks selectors after.phases
 task_keeps before after selectors number work lawful adds fits first syncs =
     let task : Task = record { line = number; work = work } in
     let old : Phase = adds.phase in
@@ -359,7 +359,7 @@ task_keeps before after selectors number work lawful adds fits first syncs =
       });
       moments = same_moments adds.others old new refl (subst (IsNonDecreasingBy (λ (p : Phase). p.moment.ms)) adds.last lawful.moments);
       few_tasks = omega arith;
-      synced = λ front rest low high selector gateway is inside. sync_by (length before.gateways) (works_of before.phases) work lawful.synced syncs front rest low high selector gateway (sym works ∙ is) inside;
+      synced = λ front rest one gateway is asks inside. sync_by (length before.gateways) (works_of before.phases) work lawful.synced syncs front rest one gateway (sym works ∙ is) asks inside;
     } in
     subst (AreLawfulPhases before.gateways before.blocks selectors) (ap (λ (s : Script). s.phases) (sym adds.adds)) phases
 
@@ -441,19 +441,19 @@ module _ (before after : SoFar) (number : ℕ) (line : List ℕ) (order : IsLawf
 
   upload_keeps : UploadLine before number line after → IsLawfulSoFar after
   upload_keeps says =
-      subst IsLawfulSoFar (sym says.adds) (with_task says.script (Upload says.ulid says.stop) says.task (task_keeps before.script says.script (length before.script.selectors) number (Upload says.ulid says.stop) order.phases says.task (says.declared, lawful_stop says.texts says.stop says.are_texts) (λ is. absurd cc) (λ low high selector gateway is inside. absurd cc)))
+      subst IsLawfulSoFar (sym says.adds) (with_task says.script (Upload says.ulid says.stop) says.task (task_keeps before.script says.script (length before.script.selectors) number (Upload says.ulid says.stop) order.phases says.task (says.declared, lawful_stop says.texts says.stop says.are_texts) (λ is. absurd cc) (λ gateway asks inside. absurd cc)))
 
   sync_keeps : SyncLine before number line after → IsLawfulSoFar after
   sync_keeps says =
-      subst IsLawfulSoFar (sym says.adds) (with_task says.script (Sync says.gateway) says.task (task_keeps before.script says.script (length before.script.selectors) number (Sync says.gateway) order.phases says.task (named_inside before.script.gateways says.name says.gateway says.declared) (λ is. absurd cc) (λ low high selector gateway is inside. absurd cc)))
+      subst IsLawfulSoFar (sym says.adds) (with_task says.script (Sync says.gateway) says.task (task_keeps before.script says.script (length before.script.selectors) number (Sync says.gateway) order.phases says.task (named_inside before.script.gateways says.name says.gateway says.declared) (λ is. absurd cc) (λ gateway asks inside. absurd cc)))
 
   compact_keeps : CompactLine before number line after → IsLawfulSoFar after
   compact_keeps says =
-      subst IsLawfulSoFar (sym says.adds) (with_task says.script (Compact says.stop) says.task (task_keeps before.script says.script (length before.script.selectors) number (Compact says.stop) order.phases says.task (lawful_stop says.texts says.stop says.are_texts) (λ is. says.first) (λ low high selector gateway is inside. absurd cc)))
+      subst IsLawfulSoFar (sym says.adds) (with_task says.script (Compact says.stop) says.task (task_keeps before.script says.script (length before.script.selectors) number (Compact says.stop) order.phases says.task (lawful_stop says.texts says.stop says.are_texts) (λ is. says.first) (λ gateway asks inside. absurd cc)))
 
   clean_keeps : CleanLine before number line after → IsLawfulSoFar after
   clean_keeps says =
-      subst IsLawfulSoFar (sym says.adds) (with_task says.script (Clean says.stop) says.task (task_keeps before.script says.script (length before.script.selectors) number (Clean says.stop) order.phases says.task (lawful_stop says.texts says.stop says.are_texts) (λ is. absurd cc) (λ low high selector gateway is inside. absurd cc)))
+      subst IsLawfulSoFar (sym says.adds) (with_task says.script (Clean says.stop) says.task (task_keeps before.script says.script (length before.script.selectors) number (Clean says.stop) order.phases says.task (lawful_stop says.texts says.stop says.are_texts) (λ is. absurd cc) (λ gateway asks inside. absurd cc)))
 
   query_keeps : QueryLine before number line after → IsLawfulSoFar after
   query_keeps says =
@@ -462,7 +462,7 @@ module _ (before after : SoFar) (number : ℕ) (line : List ℕ) (order : IsLawf
       let adds = says.task in
       let script : Script = record before.script { phases = adds.others ++ record adds.phase { tasks = adds.phase.tasks ++ record { line = number; work = work } ∷ [] } ∷ [] } in
       let fits : IsLawfulWork before.script.gateways before.script.blocks (selectors + 1) work = (says.is_low.near.early, says.times, says.is_high.near.late, omega arith) in
-      let phases = task_keeps before.script says.script (selectors + 1) number work (selector_keeps before.script.gateways before.script.blocks selectors before.script.phases order.phases) adds fits (λ is. absurd cc) (λ low high selector gateway is inside. says.synced gateway inside) in
+      let phases = task_keeps before.script says.script (selectors + 1) number work (selector_keeps before.script.gateways before.script.blocks selectors before.script.phases order.phases) adds fits (λ is. absurd cc) (λ gateway asks inside. says.synced gateway inside) in
       let moved : AreLawfulPhases before.script.gateways before.script.blocks (selectors + 1) script.phases = subst (AreLawfulPhases before.script.gateways before.script.blocks (selectors + 1)) (ap (λ (s : Script). s.phases) adds.adds) phases in
       let all : IsLawfulSoFar (spelling.outside (record script { selectors = before.script.selectors ++ says.selector ∷ [] })) = record {
         rules = order.rules;

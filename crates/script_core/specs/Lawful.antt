@@ -30,7 +30,7 @@ use Rattle.script_workers.specs.declared.work.Work.TheVariants.{Upload, Sync, Co
 use Rattle.script_fields.specs.Values.{is_reserved, agree}
 use Rattle.script_fields.specs.Samples.{are_within}
 use Rattle.script_workers.specs.Hands.{gateway_count, hands_of}
-use Rattle.script_workers.specs.Works.{works_of, has_sync, CompactOnce}
+use Rattle.script_workers.specs.Works.{works_of, asks_all, has_sync, CompactOnce}
 use Rattle.script_core.specs.Blocks.{declares}
 
 -- a retention, where there is one, of some time
@@ -119,8 +119,8 @@ pub record AreLawfulPhases (gateways : List (List ℕ)) (blocks : List Block) (s
   pub each : All (IsLawfulPhase gateways blocks selectors) phases
   pub moments : IsNonDecreasingBy (λ phase. phase.moment.ms) phases
   pub few_tasks : length (works_of phases) ≤ most_tasks
-  -- each gateway has a sync before each query
-  pub synced : (before after : List Work) (low high : ℤ) (selector gateway : ℕ) → works_of phases ≡ before ++ Query low high selector ∷ after → gateway < length gateways → IsTrue (has_sync before gateway)
+  -- each gateway has a sync before each task that asks all gateways
+  pub synced : (before after : List Work) (work : Work) (gateway : ℕ) → works_of phases ≡ before ++ work ∷ after → IsTrue (asks_all work) → gateway < length gateways → IsTrue (has_sync before gateway)
 
 -- all times, or a range of times that a script may name
 abbrev pub IsLawfulPartition : Partition → Type 0

@@ -25,10 +25,11 @@ pub struct PartReader {
 }
 
 impl PartReader {
-    ghost use Rattle.std.specs.Prelude.{◌≡◌, ◌⊎◌, ◌<◌, ◌+◌, ℕ, List, [], ◌∷◌, ◌++◌, IfErr, IfOk, OnOk, IsTrue};
+    ghost use Rattle.std.specs.Prelude.{◌≡◌, ◌⊎◌, ◌<◌, ◌≤◌, ◌+◌, length, ℕ, List, [], ◌∷◌, ◌++◌, IfErr, IfOk, OnOk, IsTrue};
     ghost use Rattle.label_sets.specs.declared.label.Label.{Label};
     ghost use Rattle.base.specs.Reading.{Gives};
     ghost use Rattle.script_fields.specs.Limits.{longest_text};
+    ghost use Rattle.script_core.specs.Counts.{members_of_script};
     ghost use Rattle.script_core.specs.Reading.{script_of};
     ghost use Rattle.script_fields.specs.declared.script_refusal.ScriptRefusal.TheVariants as refusals;
     ghost use Rattle.std.specs.List.{list_all};
@@ -113,6 +114,8 @@ impl PartReader {
             → IfOk result (λ script. Spells text script) }
         ensures lawful { (text : List ℕ) → HasRead self text
             → IfOk result (λ script. IsLawfulScript script) }
+        ensures bounded { (text : List ℕ) → HasRead self text
+            → IfOk result (λ script. members_of_script script ≤ length text) }
         ensures gives { (text : List ℕ) → HasRead self text
             → Gives refusals.NoMemory (λ script. script) result (script_of text) }
     {

@@ -1,14 +1,19 @@
 -- The samples of a line, one after another.
-use Rattle.std.proofs.Common.{◌≡◌, ℕ, ◌+◌, ◌<◌, List, [], ◌∷◌, ◌++◌, length, Option, Some, None, Result, Ok, Err, refl, sym, ap, ◌∙◌, arith, append_assoc, append-nil}
+use Rattle.std.proofs.Common.{◌≡◌, ℕ, ◌+◌, ◌*◌, ◌<◌, ◌≤◌, List, [], ◌∷◌, ◌++◌, length, Option, Some, None, Result, Ok, Err, refl, sym, ap, ◌∙◌, arith, append_assoc, append-nil}
 use Rattle.std.proofs.lemmas.List.{length-append}
-use Rattle.std.proofs.lemmas.List.Splits.{slice_split_at, slice_split_none}
+use Rattle.std.proofs.lemmas.List.Splits.{slice_split_at, slice_split_none, length-slice_split}
+use Rattle.std.proofs.lemmas.List.Sums.{count_by-le-length}
+use Rattle.base.proofs.Binds.{bind_ok, ok_is, refused_as_ok}
+use Rattle.base.proofs.Bound.{OfValue}
 use Rattle.base.specs.Reading.{◌>>=◌, refused_as}
-use Rattle.label_sets.specs.SampleText.{sample_of}
+use Rattle.label_sets.specs.SampleText.{pattern_of, sample_of, sample_with}
 use Rattle.label_sets.specs.declared.sample.Sample.{Sample}
 use Rattle.script_fields.specs.declared.cause.LineCause.{LineCause}
 use Rattle.script_fields.specs.declared.cause.LineCause.TheVariants.{BadSample}
+use Rattle.script_fields.specs.declared.line_refusal.LineRefusal.TheVariants as lines
+use Rattle.script_fields.specs.LineRefusals.{bad}
 use Rattle.script_fields.specs.Fields.{is_space, next_field}
-use Rattle.script_fields.specs.Samples.{texts_of, samples_from}
+use Rattle.script_fields.specs.Samples.{texts_of, samples_from, samples_of}
 use Rattle.script_fields.proofs.FieldLaws.{spaceless, Cut, cut_nothing, cut_whole, cut_front, cut_found}
 
 -- the texts that are left
@@ -82,3 +87,24 @@ pub samples_end : (left : Option (List ℕ)) (samples : List Sample) (whole : Re
 unfolding samples_from
 samples_end left samples whole none so_far =
     sym so_far ∙ ap (λ l. after samples (samples_from (texts_left l))) none ∙ ap Ok (append-nil samples)
+
+-- ---- how many there are
+
+none_empty : (samples : List Sample) → samples_from ([] ∷ []) ≡ Ok samples → ⊥
+unfolding samples_from sample_of sample_with pattern_of
+none_empty samples e = absurd cc
+
+from_few : (texts : List (List ℕ)) (samples : List Sample) → samples_from texts ≡ Ok samples → length samples ≡ length texts
+unfolding samples_from
+from_few [] samples e = sym (ap length (ok_is {E = LineCause} _ _ e))
+from_few (text ∷ texts) samples e =
+    let first = bind_ok (refused_as (λ _. BadSample) (sample_of text)) (λ sample. samples_from texts >>= λ more. Ok (sample ∷ more)) samples e in
+    let others = bind_ok (samples_from texts) (λ more. Ok (first.0 ∷ more)) samples first.2 in
+    omega (arith, from_few texts others.0 others.1, ap length (ok_is {E = LineCause} (first.0 ∷ others.0) samples others.2))
+
+-- each sample has a text of its own, and no text that is read is empty
+pub samples_few : (texts : List ℕ) → OfValue (bad (samples_of texts)) (λ (samples : List Sample). length samples ≤ 2 * length texts)
+samples_few [] = record { holds = λ samples e. absurd (none_empty samples (refused_as_ok lines.Bad (samples_of []) samples e)) }
+samples_few (x ∷ xs) = record {
+  holds = λ samples e. omega (arith, from_few (texts_of (x ∷ xs)) samples (refused_as_ok lines.Bad (samples_of (x ∷ xs)) samples e), length-slice_split is_space (x ∷ xs), count_by-le-length is_space (x ∷ xs));
+}

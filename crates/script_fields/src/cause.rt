@@ -1,3 +1,6 @@
+//! What may be wrong with a line, by the numbers that reports name and `docs/SCRIPT.md` explains. A line is tested for
+//! them in the order of their numbers, but for the size of a pattern, and the first counts.
+
 ghost use Rattle.std.specs.Prelude.{◌≡◌};
 ghost use Rattle.base.specs.Reading.{unless};
 ghost use Rattle.script_fields.specs.Wording.{cause_number};

@@ -6,6 +6,7 @@ ghost use Rattle.base.specs.Reading.{Answers};
 ghost use Rattle.script_fields.specs.Fields.{is_newline, is_silent, next_field, only_field, after_space};
 
 use crate::LineCause;
+use memchr::memchr;
 
 /// The line at the front of a text, and the text after its newline.
 pub fn cut_line(text: &[u8]) -> (&[u8], &[u8])
@@ -23,7 +24,7 @@ pub fn cut_line(text: &[u8]) -> (&[u8], &[u8])
 fn newline_place(text: &[u8]) -> Option<usize>
     ensures { result ≡ position is_newline text.now }
 {
-    text.iter().position(|byte| *byte == b'\n')
+    memchr(b'\n', text)
 }
 
 /// Whether a line says nothing: it is empty, or a comment.

@@ -1,3 +1,5 @@
+//! Why a line was refused, by those who read it and do not know its number. Whoever counts the lines adds that.
+
 ghost use Rattle.std.specs.Prelude.{◌≡◌};
 ghost use Rattle.script_fields.specs.declared.line_refusal.LineRefusal.TheVariants.{Bad, NoMemory};
 

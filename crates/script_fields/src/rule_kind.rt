@@ -1,3 +1,7 @@
+//! Rule lines. Most set a value in place of the one before; a replica label is one more, and a retention of no time is
+//! none.
+
+ghost use Rattle.std.specs.Prelude.{◌≡◌, OnErr};
 ghost use Rattle.base.specs.Reading.{Answers, Gives};
 ghost use Rattle.script_fields.specs.declared.line_refusal.LineRefusal.TheVariants as line_refusals;
 ghost use Rattle.script_fields.specs.LineRefusals.{bad};
@@ -23,7 +27,7 @@ pub enum RuleKind {
 }
 
 impl RuleKind {
-    ghost use Rattle.std.specs.Prelude.{◌≡◌};
+    ghost use Rattle.std.specs.Prelude.{◌≡◌, OnErr};
     ghost use Rattle.script_fields.specs.Fields.{rule_kind};
 
     /// The kind of the rule that has this name, if there is one.
@@ -39,8 +43,9 @@ impl RuleKind {
 
     /// The rules take what a line of this kind says by the text of its value.
     pub fn apply(self, rules: &mut Rules, alloc: Global, text: &str) -> Result<(), LineRefusal>
-        ensures { Gives line_refusals.NoMemory (λ _. rules.new) result
+        ensures gives { Gives line_refusals.NoMemory (λ _. rules.new) result
             (bad (apply_rule self text.now rules.old)) }
+        ensures kept { OnErr result (rules.new ≡ rules.old) }
     {
         match self {
             RuleKind::Valued(name) => Ok(name.set(rules, text)?),
@@ -52,8 +57,9 @@ impl RuleKind {
 
 #[tactic(auto, unfolding(crate::specs::Values::add_replica))]
 fn add_replica(rules: &mut Rules, alloc: Global, name: &str) -> Result<(), LineRefusal>
-    ensures { Gives line_refusals.NoMemory (λ _. rules.new) result
+    ensures gives { Gives line_refusals.NoMemory (λ _. rules.new) result
         (bad (add_replica name.now rules.old)) }
+    ensures kept { OnErr result (rules.new ≡ rules.old) }
 {
     LineCause::BadName.unless(is_name(name))?;
     rules.replicas.push(Text::from_str(alloc, name)?)?;
@@ -63,7 +69,8 @@ fn add_replica(rules: &mut Rules, alloc: Global, name: &str) -> Result<(), LineR
 /// A retention of no time sets none.
 #[tactic(auto, unfolding(crate::specs::Values::set_retention))]
 fn set_retention(rules: &mut Rules, text: &str) -> Result<(), LineCause>
-    ensures { Answers (λ _. rules.new) result (set_retention text.now rules.old) }
+    ensures gives { Answers (λ _. rules.new) result (set_retention text.now rules.old) }
+    ensures kept { OnErr result (rules.new ≡ rules.old) }
 {
     let retention = span(text)?;
     rules.retention = if retention.ms == 0 {

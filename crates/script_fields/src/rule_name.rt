@@ -15,7 +15,7 @@ pub enum RuleName {
 }
 
 impl RuleName {
-    ghost use Rattle.std.specs.Prelude.{◌≡◌};
+    ghost use Rattle.std.specs.Prelude.{◌≡◌, OnErr};
     ghost use Rattle.base.specs.Reading.{Answers};
     ghost use Rattle.script_fields.specs.Fields.{rule_name};
     ghost use Rattle.script_fields.specs.Values.{set_rule};
@@ -38,7 +38,8 @@ impl RuleName {
     /// The rule takes the value that a text says, in place of what was set before.
     #[tactic(auto, unfolding(crate::specs::Values::value_field, crate::specs::Values::set_rule))]
     pub fn set(self, rules: &mut Rules, text: &str) -> Result<(), LineCause>
-        ensures { Answers (λ _. rules.new) result (set_rule self text.now rules.old) }
+        ensures gives { Answers (λ _. rules.new) result (set_rule self text.now rules.old) }
+        ensures kept { OnErr result (rules.new ≡ rules.old) }
     {
         match self {
             RuleName::Consistency => rules.consistency = span(text)?,

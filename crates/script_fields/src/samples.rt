@@ -1,6 +1,6 @@
 //! The samples of a series line, which single spaces keep apart.
 
-ghost use Rattle.std.specs.Prelude.{◌≡◌};
+ghost use Rattle.std.specs.Prelude.{◌≡◌, ◌*◌, ◌≤◌, length, IfOk};
 ghost use Rattle.base.specs.Reading.{Gives, refused_as};
 ghost use Rattle.label_sets.specs.SampleText.{sample_of};
 ghost use Rattle.script_fields.specs.declared.cause.LineCause.TheVariants.{BadSample};
@@ -46,6 +46,14 @@ fn has_small_number(text: &str) -> bool
 
 /// The samples, each of which is a field.
 pub fn read_samples(alloc: Global, texts: &str) -> Result<SampleList, LineRefusal>
+    ensures gives { Gives line_refusals.NoMemory (λ samples. samples) result
+        (bad (samples_of texts.now)) }
+    ensures few { IfOk result (λ samples. length samples ≤ 2 * length texts.now) }
+{
+    all_samples(alloc, texts)
+}
+
+fn all_samples(alloc: Global, texts: &str) -> Result<SampleList, LineRefusal>
     ensures { Gives line_refusals.NoMemory (λ samples. samples) result
         (bad (samples_of texts.now)) }
 {

@@ -1,3 +1,6 @@
+//! Why a text is no script: the first line that is not lawful, in the words of a report. Want of memory is told apart,
+//! since it says nothing of the text.
+
 ghost use Rattle.std.specs.Prelude.{◌≡◌, ◌++◌, IfOk, codes};
 ghost use Rattle.base.specs.Decimal.{decimal_text};
 ghost use Rattle.script_fields.specs.declared.script_refusal.ScriptRefusal.TheVariants.{NoMemory};

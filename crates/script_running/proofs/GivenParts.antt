@@ -6,22 +6,16 @@ use Rattle.base.proofs.Lists.{drop_place}
 use Rattle.querier.specs.Gathered.{IsGathered}
 use Rattle.querier.specs.declared.answer.Answer.{Answer}
 use Rattle.querier.specs.declared.answer.Names.{Names}
+use Rattle.script_workers.specs.Works.{asks_all}
 use Rattle.script_workers.specs.declared.work.Work.{Work}
-use Rattle.script_workers.specs.declared.work.Work.TheVariants as work
 use Rattle.script_running.specs.Given.{HasGiven}
-use Rattle.script_running.specs.Outcomes.{AreAllParts, IsOutcomeOf, IsQueryOutcome, answers_of, first_none, names_of, or_first, why_none}
-use Rattle.script_running.specs.declared.outcome.CleanOutcome.{CleanOutcome}
-use Rattle.script_running.specs.declared.outcome.CompactOutcome.{CompactOutcome}
+use Rattle.script_running.specs.Outcomes.{AreAllParts, IsOutcomeOf, IsQueryOutcome, IsWhole, Outcome, OutcomeBy, Part, PartsBy, answers_of, first_none, names_of, or_first, why_none}
 use Rattle.script_running.specs.declared.outcome.NoAnswer.{NoAnswer}
-use Rattle.script_running.specs.declared.outcome.Outcome.TheVariants as outcome
+use Rattle.script_running.specs.declared.came.Came.TheVariants as came_to
 use Rattle.script_running.specs.declared.outcome.QueryOutcome.{QueryOutcome}
 use Rattle.script_running.specs.declared.outcome.QueryOutcome.TheVariants as query
-use Rattle.script_running.specs.declared.outcome.SyncOutcome.{SyncOutcome}
-use Rattle.script_running.specs.declared.outcome.UploadOutcome.{UploadOutcome}
-use Rattle.script_running.specs.declared.part.Part.{Part}
-use Rattle.script_running.specs.declared.part.Part.TheVariants as part
-use Rattle.script_running.specs.declared.part.QueryPart.{QueryPart}
-use Rattle.script_running.specs.declared.part.QueryPart.TheVariants as given
+use Rattle.script_running.specs.declared.outcome.QueryPart.{QueryPart}
+use Rattle.script_running.specs.declared.outcome.QueryPart.TheVariants as given
 use Rattle.script_running.specs.declared.query_parts.Given.{Given}
 use Rattle.script_running.proofs.Taking.{found}
 
@@ -30,33 +24,41 @@ use Rattle.script_running.proofs.Taking.{found}
 -- what one part adds
 abbrev answer_in : QueryPart → List Answer
 answer_in given.NotAsked = []
-answer_in (given.Answer own) = own ∷ []
-answer_in (given.NoAnswer why) = []
+answer_in given.NoView = []
+answer_in (given.Answer own first) = own ∷ []
+answer_in (given.NoAnswer why first) = []
 
 abbrev names_in : ℕ → QueryPart → List Names
 names_in gateway given.NotAsked = []
-names_in gateway (given.Answer own) = record { gateway = gateway; sources = own.sources } ∷ []
-names_in gateway (given.NoAnswer why) = []
+names_in gateway given.NoView = []
+names_in gateway (given.Answer own first) = record { gateway = gateway; sources = own.sources } ∷ []
+names_in gateway (given.NoAnswer why first) = []
 
 answers_more : (parts : List QueryPart) (one : QueryPart) → answers_of (parts ++ one ∷ []) ≡ answers_of parts ++ answer_in one
 answers_more [] given.NotAsked = refl
-answers_more [] (given.Answer own) = refl
-answers_more [] (given.NoAnswer why) = refl
+answers_more [] given.NoView = refl
+answers_more [] (given.Answer own first) = refl
+answers_more [] (given.NoAnswer why first) = refl
 answers_more (given.NotAsked ∷ parts) one = answers_more parts one
-answers_more (given.Answer own ∷ parts) one = ap (λ (l : List Answer). own ∷ l) (answers_more parts one)
-answers_more (given.NoAnswer why ∷ parts) one = answers_more parts one
+answers_more (given.NoView ∷ parts) one = answers_more parts one
+answers_more (given.Answer own first ∷ parts) one = ap (λ (l : List Answer). own ∷ l) (answers_more parts one)
+answers_more (given.NoAnswer why first ∷ parts) one = answers_more parts one
 
 names_more : (gateway : ℕ) (parts : List QueryPart) (one : QueryPart) → names_of gateway (parts ++ one ∷ []) ≡ names_of gateway parts ++ names_in (gateway + length parts) one
 names_more gateway [] given.NotAsked = refl
-names_more gateway [] (given.Answer own) = let here : gateway ≡ gateway + 0 = omega arith in ap (λ (n : ℕ). record { gateway = n; sources = own.sources } ∷ []) here
-names_more gateway [] (given.NoAnswer why) = refl
+names_more gateway [] given.NoView = refl
+names_more gateway [] (given.Answer own first) = let here : gateway ≡ gateway + 0 = omega arith in ap (λ (n : ℕ). record { gateway = n; sources = own.sources } ∷ []) here
+names_more gateway [] (given.NoAnswer why first) = refl
 names_more gateway (given.NotAsked ∷ parts) one =
     let there : gateway + 1 + length parts ≡ gateway + suc (length parts) = omega arith in
     names_more (gateway + 1) parts one ∙ ap (λ (n : ℕ). names_of (gateway + 1) parts ++ names_in n one) there
-names_more gateway (given.Answer own ∷ parts) one =
+names_more gateway (given.NoView ∷ parts) one =
+    let there : gateway + 1 + length parts ≡ gateway + suc (length parts) = omega arith in
+    names_more (gateway + 1) parts one ∙ ap (λ (n : ℕ). names_of (gateway + 1) parts ++ names_in n one) there
+names_more gateway (given.Answer own first ∷ parts) one =
     let there : gateway + 1 + length parts ≡ gateway + suc (length parts) = omega arith in
     ap (λ (l : List Names). record { gateway = gateway; sources = own.sources } ∷ l) (names_more (gateway + 1) parts one ∙ ap (λ (n : ℕ). names_of (gateway + 1) parts ++ names_in n one) there)
-names_more gateway (given.NoAnswer why ∷ parts) one =
+names_more gateway (given.NoAnswer why first ∷ parts) one =
     let there : gateway + 1 + length parts ≡ gateway + suc (length parts) = omega arith in
     names_more (gateway + 1) parts one ∙ ap (λ (n : ℕ). names_of (gateway + 1) parts ++ names_in n one) there
 
@@ -89,35 +91,46 @@ unasked_more parts before h = record {
 }
 
 -- an answer joins those before it
-pub answer_more : (parts : List QueryPart) (before after : Given) (gateway : ℕ) (own : Answer) (sources : List ℕ) → length parts ≡ gateway → sources ≡ own.sources
+pub answer_more : (parts : List QueryPart) (before after : Given) (gateway : ℕ) (own : Answer) (first : ℕ) (sources : List ℕ) → length parts ≡ gateway → sources ≡ own.sources
     → after.answers ≡ before.answers ++ own ∷ [] → after.names ≡ before.names ++ record { gateway = gateway; sources = sources } ∷ [] → after.none ≡ before.none
-    → HasGiven parts before → HasGiven (parts ++ given.Answer own ∷ []) after
-answer_more parts before after gateway own sources count same answers names none h =
+    → HasGiven parts before → HasGiven (parts ++ given.Answer own first ∷ []) after
+answer_more parts before after gateway own first sources count same answers names none h =
     let here : gateway ≡ 0 + length parts = omega (arith, count) in
     record {
-      answers = answers ∙ ap (λ (l : List Answer). l ++ own ∷ []) h.answers ∙ sym (answers_more parts (given.Answer own));
+      answers = answers ∙ ap (λ (l : List Answer). l ++ own ∷ []) h.answers ∙ sym (answers_more parts (given.Answer own first));
       names = names ∙ ap (λ (l : List Names). l ++ record { gateway = gateway; sources = sources } ∷ []) h.names
           ∙ ap (λ (l : List ℕ). names_of 0 parts ++ record { gateway = gateway; sources = l } ∷ []) same
-          ∙ ap (λ (n : ℕ). names_of 0 parts ++ record { gateway = n; sources = own.sources } ∷ []) here ∙ sym (names_more 0 parts (given.Answer own));
-      none = none ∙ h.none ∙ sym (or_none (first_none 0 parts)) ∙ sym (none_more 0 parts (given.Answer own));
+          ∙ ap (λ (n : ℕ). names_of 0 parts ++ record { gateway = n; sources = own.sources } ∷ []) here ∙ sym (names_more 0 parts (given.Answer own first));
+      none = none ∙ h.none ∙ sym (or_none (first_none 0 parts)) ∙ sym (none_more 0 parts (given.Answer own first));
     }
 
-noted_by : (parts : List QueryPart) (gateway : ℕ) (why : NoAnswer) (before after : Option (ℕ × NoAnswer)) → gateway ≡ 0 + length parts → before ≡ first_none 0 parts → (before ≡ None → after ≡ Some (gateway, why)) → ((own : ℕ × NoAnswer) → before ≡ Some own → after ≡ before)
-    → after ≡ first_none 0 (parts ++ given.NoAnswer why ∷ [])
-noted_by parts gateway why None after here is first other =
-    first refl ∙ ap (λ (n : ℕ). or_other None (Some (n, why))) here ∙ ap (λ (o : Option (ℕ × NoAnswer)). or_other o (Some (0 + length parts, why))) is ∙ sym (none_more 0 parts (given.NoAnswer why))
-noted_by parts gateway why (Some own) after here is first other =
-    other own refl ∙ ap (λ (o : Option (ℕ × NoAnswer)). or_other o (Some (0 + length parts, why))) is ∙ sym (none_more 0 parts (given.NoAnswer why))
+-- what gives no answer has none, and names nothing
+none_in : (one : QueryPart) (why : NoAnswer) (gateway : ℕ) → why_none one ≡ Some why → (answer_in one ≡ []) × (names_in gateway one ≡ [])
+none_in given.NotAsked why gateway is = absurd (cc (is))
+none_in given.NoView why gateway is = (refl, refl)
+none_in (given.Answer own first) why gateway is = absurd (cc (is))
+none_in (given.NoAnswer also first) why gateway is = (refl, refl)
+
+noted_by : (parts : List QueryPart) (one : QueryPart) (gateway : ℕ) (why : NoAnswer) (before after : Option (ℕ × NoAnswer)) → why_none one ≡ Some why → gateway ≡ 0 + length parts → before ≡ first_none 0 parts → (before ≡ None → after ≡ Some (gateway, why)) → ((own : ℕ × NoAnswer) → before ≡ Some own → after ≡ before)
+    → after ≡ first_none 0 (parts ++ one ∷ [])
+noted_by parts one gateway why None after gives here is first other =
+    first refl ∙ ap (λ (n : ℕ). or_other None (Some (n, why))) here ∙ ap (λ (o : Option (ℕ × NoAnswer)). or_other o (Some (0 + length parts, why))) is
+    ∙ ap (λ (w : Option NoAnswer). or_other (first_none 0 parts) (or_first w (0 + length parts) None)) (sym gives) ∙ sym (none_more 0 parts one)
+noted_by parts one gateway why (Some own) after gives here is first other =
+    other own refl ∙ ap (λ (o : Option (ℕ × NoAnswer)). or_other o (Some (0 + length parts, why))) is
+    ∙ ap (λ (w : Option NoAnswer). or_other (first_none 0 parts) (or_first w (0 + length parts) None)) (sym gives) ∙ sym (none_more 0 parts one)
 
 -- a gateway that gave no answer is noted, if it is the first
-pub none_noted : (parts : List QueryPart) (before after : Given) (gateway : ℕ) (why : NoAnswer) → length parts ≡ gateway → after.answers ≡ before.answers → after.names ≡ before.names
+pub none_noted : (parts : List QueryPart) (one : QueryPart) (before after : Given) (gateway : ℕ) (why : NoAnswer) → why_none one ≡ Some why → length parts ≡ gateway → after.answers ≡ before.answers → after.names ≡ before.names
     → (before.none ≡ None → after.none ≡ Some (gateway, why)) → ((own : ℕ × NoAnswer) → before.none ≡ Some own → after.none ≡ before.none)
-    → HasGiven parts before → HasGiven (parts ++ given.NoAnswer why ∷ []) after
-none_noted parts before after gateway why count answers names first other h = record {
-  answers = answers ∙ h.answers ∙ sym (append-nil (answers_of parts)) ∙ sym (answers_more parts (given.NoAnswer why));
-  names = names ∙ h.names ∙ sym (append-nil (names_of 0 parts)) ∙ sym (names_more 0 parts (given.NoAnswer why));
-  none = noted_by parts gateway why before.none after.none (omega (arith, count)) h.none first other;
-}
+    → HasGiven parts before → HasGiven (parts ++ one ∷ []) after
+none_noted parts one before after gateway why gives count answers names first other h =
+    let none = none_in one why (0 + length parts) gives in
+    record {
+      answers = answers ∙ h.answers ∙ sym (append-nil (answers_of parts)) ∙ ap (λ (l : List Answer). answers_of parts ++ l) (sym none.0) ∙ sym (answers_more parts one);
+      names = names ∙ h.names ∙ sym (append-nil (names_of 0 parts)) ∙ ap (λ (l : List Names). names_of 0 parts ++ l) (sym none.1) ∙ sym (names_more 0 parts one);
+      none = noted_by parts one gateway why before.none after.none gives (omega (arith, count)) h.none first other;
+    }
 
 was_none : {X : Type 0} (o : Option X) (test : Bool) → is_some o ≡ not test → test ≡ true → o ≡ None
 was_none None test shows so = refl
@@ -130,28 +143,28 @@ was_some None false shows so = absurd (cc (shows))
 was_some (Some x) test shows so = λ is. absurd (cc (is))
 
 -- as the test shows it
-pub none_put : (parts : List QueryPart) (before : Given) (gateway : ℕ) (why : NoAnswer) (test : Bool) → is_some before.none ≡ not test → test ≡ true → length parts ≡ gateway → HasGiven parts before
-    → HasGiven (parts ++ given.NoAnswer why ∷ []) (record { answers = before.answers; names = before.names; none = Some (gateway, why) })
-none_put parts before gateway why test shows so count h =
+pub none_put : (parts : List QueryPart) (one : QueryPart) (before : Given) (gateway : ℕ) (why : NoAnswer) (test : Bool) → is_some before.none ≡ not test → test ≡ true → why_none one ≡ Some why → length parts ≡ gateway → HasGiven parts before
+    → HasGiven (parts ++ one ∷ []) (record { answers = before.answers; names = before.names; none = Some (gateway, why) })
+none_put parts one before gateway why test shows so gives count h =
     let none = was_none before.none test shows so in
-    none_noted parts before (record { answers = before.answers; names = before.names; none = Some (gateway, why) }) gateway why count refl refl (λ is. refl) (λ own is. absurd (cc (none, is))) h
+    none_noted parts one before (record { answers = before.answers; names = before.names; none = Some (gateway, why) }) gateway why gives count refl refl (λ is. refl) (λ own is. absurd (cc (none, is))) h
 
-pub none_kept : (parts : List QueryPart) (before : Given) (gateway : ℕ) (why : NoAnswer) (test : Bool) → is_some before.none ≡ not test → test ≡ false → length parts ≡ gateway → HasGiven parts before
-    → HasGiven (parts ++ given.NoAnswer why ∷ []) (record { answers = before.answers; names = before.names; none = before.none })
-none_kept parts before gateway why test shows so count h =
-    none_noted parts before (record { answers = before.answers; names = before.names; none = before.none }) gateway why count refl refl (λ is. absurd (was_some before.none test shows so is)) (λ own is. refl) h
+pub none_kept : (parts : List QueryPart) (one : QueryPart) (before : Given) (gateway : ℕ) (why : NoAnswer) (test : Bool) → is_some before.none ≡ not test → test ≡ false → why_none one ≡ Some why → length parts ≡ gateway → HasGiven parts before
+    → HasGiven (parts ++ one ∷ []) (record { answers = before.answers; names = before.names; none = before.none })
+none_kept parts one before gateway why test shows so gives count h =
+    none_noted parts one before (record { answers = before.answers; names = before.names; none = before.none }) gateway why gives count refl refl (λ is. absurd (was_some before.none test shows so is)) (λ own is. refl) h
 
 -- what a gateway gave, as it was added
 pub unasked_added : (parts : List QueryPart) (before : Given) (one : QueryPart) → one ≡ given.NotAsked → HasGiven parts before → HasGiven (parts ++ one ∷ []) before
 unasked_added parts before one is h = subst (λ (p : QueryPart). HasGiven (parts ++ p ∷ []) before) (sym is) (unasked_more parts before h)
 
-pub answer_added : {E : Type 0} (parts : List QueryPart) (before : Given) (answers : List Answer) (names : List Names) (gateway : ℕ) (own : Answer) (sources : List ℕ) (one : QueryPart) (r : Result (Unit {0}) E)
-    → one ≡ given.Answer own → sources ≡ own.sources → OnOk r (answers ≡ before.answers ++ own ∷ []) → names ≡ before.names ++ record { gateway = gateway; sources = sources } ∷ [] → length parts ≡ gateway → HasGiven parts before
+pub answer_added : {E : Type 0} (parts : List QueryPart) (before : Given) (answers : List Answer) (names : List Names) (gateway : ℕ) (own : Answer) (first : ℕ) (sources : List ℕ) (one : QueryPart) (r : Result (Unit {0}) E)
+    → one ≡ given.Answer own first → sources ≡ own.sources → OnOk r (answers ≡ before.answers ++ own ∷ []) → names ≡ before.names ++ record { gateway = gateway; sources = sources } ∷ [] → length parts ≡ gateway → HasGiven parts before
     → OnOk r (HasGiven (parts ++ one ∷ []) (record { answers = answers; names = names; none = before.none }))
-answer_added parts before answers names gateway own sources one (Err e) is same took named count h = tt
-answer_added parts before answers names gateway own sources one (Ok tt) is same took named count h =
+answer_added parts before answers names gateway own first sources one (Err e) is same took named count h = tt
+answer_added parts before answers names gateway own first sources one (Ok tt) is same took named count h =
     subst (λ (p : QueryPart). HasGiven (parts ++ p ∷ []) (record { answers = answers; names = names; none = before.none })) (sym is)
-    (answer_more parts before (record { answers = answers; names = names; none = before.none }) gateway own sources count same took named refl h)
+    (answer_more parts before (record { answers = answers; names = names; none = before.none }) gateway own first sources count same took named refl h)
 
 -- ---- the outcome
 
@@ -163,75 +176,50 @@ all_answered parts before own h none gathered = (sym h.none ∙ none, subst (λ 
 
 -- ---- a task's outcome, by the parts that came before one, and all of them
 
-inner : (own : QueryPart) (other : QueryPart) → part.Query own ≡ part.Query other → own ≡ other
+inner : (own : QueryPart) (other : QueryPart) → came_to.Query own ≡ came_to.Query other → own ≡ other
 inner own other is = cc (is)
 
-pub same_parts : (one other : List QueryPart) → map part.Query one ≡ map part.Query other → one ≡ other
+pub same_parts : (one other : List QueryPart) → map came_to.Query one ≡ map came_to.Query other → one ≡ other
 same_parts [] [] is = refl
 same_parts [] (q ∷ other) is = absurd (cc (is))
 same_parts (p ∷ one) [] is = absurd (cc (is))
 same_parts (p ∷ one) (q ∷ other) is =
-    let first : part.Query p ≡ part.Query q = cc (is) in
-    let rest : map part.Query one ≡ map part.Query other = cc (is) in
+    let first : came_to.Query p ≡ came_to.Query q = cc (is) in
+    let rest : map came_to.Query one ≡ map came_to.Query other = cc (is) in
     ap (λ (x : QueryPart). x ∷ one) (inner p q first) ∙ ap (λ (l : List QueryPart). q ∷ l) (same_parts one other rest)
 
 -- all parts were those of gateways
-pub query_whole : (own : List QueryPart) (end : QueryOutcome) (parts : List Part) → parts ≡ map part.Query own → IsQueryOutcome own end → (w : Work) → AreAllParts w parts → IsOutcomeOf w parts (outcome.Query end)
-query_whole [] end parts are is (work.Upload ulid stop) (one, only) = absurd (cc (are, only))
-query_whole (p ∷ own) end parts are is (work.Upload ulid stop) (one, only) = absurd (cc (are, only))
-query_whole [] end parts are is (work.Sync gateway) (one, only) = absurd (cc (are, only))
-query_whole (p ∷ own) end parts are is (work.Sync gateway) (one, only) = absurd (cc (are, only))
-query_whole [] end parts are is (work.Compact stop) (one, only) = absurd (cc (are, only))
-query_whole (p ∷ own) end parts are is (work.Compact stop) (one, only) = absurd (cc (are, only))
-query_whole [] end parts are is (work.Clean stop) (one, only) = absurd (cc (are, only))
-query_whole (p ∷ own) end parts are is (work.Clean stop) (one, only) = absurd (cc (are, only))
-query_whole own end parts are is (work.Query low high selector) all = (own, end, are, is, refl)
+no_whole : (own : List QueryPart) (parts : List Part) (one : Part) (o : Outcome) → parts ≡ map came_to.Query own → parts ≡ one ∷ [] → IsWhole one o → ⊥
+no_whole [] parts one o are only whole = absurd (cc (are, only))
+no_whole (q ∷ own) parts one o are only whole =
+    let is : one ≡ came_to.Query q = cc (are, only) in subst (λ (p : Part). IsWhole p o) is whole
 
--- one of them was not a gateway's part of a query
-abbrev IsAlone : Part → Type 0
-IsAlone one = (q : QueryPart) → one ≢ part.Query q
+query_by : (own : List QueryPart) (end : QueryOutcome) (parts : List Part) → parts ≡ map came_to.Query own → IsQueryOutcome own end → (all : Bool) → PartsBy all parts → OutcomeBy all parts (came_to.Query end)
+query_by own end parts are is true all = (own, end, are, is, refl)
+query_by own end parts are is false (one, o, only, whole) = absurd (no_whole own parts one o are only whole)
 
-not_all : (own others : List QueryPart) (one : Part) (rest : List Part) → IsAlone one → map part.Query own ++ one ∷ rest ≡ map part.Query others → ⊥
-not_all [] [] one rest alone is = absurd (cc (is))
-not_all [] (q ∷ others) one rest alone is = alone q (cc (is))
-not_all (p ∷ own) [] one rest alone is = absurd (cc (is))
-not_all (p ∷ own) (q ∷ others) one rest alone is = not_all own others one rest alone (cc (is))
+pub query_whole : (own : List QueryPart) (end : QueryOutcome) (parts : List Part) → parts ≡ map came_to.Query own → IsQueryOutcome own end → (w : Work) → AreAllParts w parts → IsOutcomeOf w parts (came_to.Query end)
+query_whole own end parts are is w all = query_by own end parts are is (asks_all w) all
 
-only_one : (own : List QueryPart) (one other : Part) (rest parts : List Part) → parts ≡ map part.Query own ++ one ∷ rest → parts ≡ other ∷ [] → IsAlone other → one ≡ other
-only_one [] one other rest parts are only alone = cc (are, only)
-only_one (p ∷ own) one other rest parts are only alone = absurd (alone p (cc (are, only)))
+-- the whole of a task is no gateway's part of a query
+not_query : (one : Part) (o : Outcome) (q : QueryPart) → IsWhole one o → one ≢ came_to.Query q
+not_query one o q whole = λ is. subst (λ (p : Part). IsWhole p o) is whole
 
--- it was an upload's
-upload_whole : (own : List QueryPart) (end : UploadOutcome) (rest parts : List Part) → parts ≡ map part.Query own ++ part.Upload end ∷ rest → (w : Work) → AreAllParts w parts → IsOutcomeOf w parts (outcome.Upload end)
-upload_whole own end rest parts are (work.Upload ulid stop) (one, only) = let same = only_one own (part.Upload end) (part.Upload one) rest parts are only (λ q is. absurd (cc (is))) in let inner : end ≡ one = cc (same) in (one, only, ap outcome.Upload inner)
-upload_whole own end rest parts are (work.Sync gateway) (one, only) = let same = only_one own (part.Upload end) (part.Sync one) rest parts are only (λ q is. absurd (cc (is))) in absurd (cc (same))
-upload_whole own end rest parts are (work.Compact stop) (one, only) = let same = only_one own (part.Upload end) (part.Compact one) rest parts are only (λ q is. absurd (cc (is))) in absurd (cc (same))
-upload_whole own end rest parts are (work.Clean stop) (one, only) = let same = only_one own (part.Upload end) (part.Clean one) rest parts are only (λ q is. absurd (cc (is))) in absurd (cc (same))
-upload_whole own end rest parts are (work.Query low high selector) (others, all) = absurd (not_all own others (part.Upload end) rest (λ q is. absurd (cc (is))) (sym are ∙ all))
+not_all : (own others : List QueryPart) (one : Part) (o : Outcome) (rest : List Part) → IsWhole one o → map came_to.Query own ++ one ∷ rest ≡ map came_to.Query others → ⊥
+not_all [] [] one o rest whole is = absurd (cc (is))
+not_all [] (q ∷ others) one o rest whole is = not_query one o q whole (cc (is))
+not_all (p ∷ own) [] one o rest whole is = absurd (cc (is))
+not_all (p ∷ own) (q ∷ others) one o rest whole is = not_all own others one o rest whole (cc (is))
 
--- it was a sync's
-sync_whole : (own : List QueryPart) (end : SyncOutcome) (rest parts : List Part) → parts ≡ map part.Query own ++ part.Sync end ∷ rest → (w : Work) → AreAllParts w parts → IsOutcomeOf w parts (outcome.Sync end)
-sync_whole own end rest parts are (work.Upload ulid stop) (one, only) = let same = only_one own (part.Sync end) (part.Upload one) rest parts are only (λ q is. absurd (cc (is))) in absurd (cc (same))
-sync_whole own end rest parts are (work.Sync gateway) (one, only) = let same = only_one own (part.Sync end) (part.Sync one) rest parts are only (λ q is. absurd (cc (is))) in let inner : end ≡ one = cc (same) in (one, only, ap outcome.Sync inner)
-sync_whole own end rest parts are (work.Compact stop) (one, only) = let same = only_one own (part.Sync end) (part.Compact one) rest parts are only (λ q is. absurd (cc (is))) in absurd (cc (same))
-sync_whole own end rest parts are (work.Clean stop) (one, only) = let same = only_one own (part.Sync end) (part.Clean one) rest parts are only (λ q is. absurd (cc (is))) in absurd (cc (same))
-sync_whole own end rest parts are (work.Query low high selector) (others, all) = absurd (not_all own others (part.Sync end) rest (λ q is. absurd (cc (is))) (sym are ∙ all))
+only_one : (own : List QueryPart) (one other : Part) (o : Outcome) (rest parts : List Part) → parts ≡ map came_to.Query own ++ one ∷ rest → parts ≡ other ∷ [] → IsWhole other o → one ≡ other
+only_one [] one other o rest parts are only whole = cc (are, only)
+only_one (p ∷ own) one other o rest parts are only whole = absurd (not_query other o p whole (cc (are, only)))
 
--- it was a compaction's
-compact_whole : (own : List QueryPart) (end : CompactOutcome) (rest parts : List Part) → parts ≡ map part.Query own ++ part.Compact end ∷ rest → (w : Work) → AreAllParts w parts → IsOutcomeOf w parts (outcome.Compact end)
-compact_whole own end rest parts are (work.Upload ulid stop) (one, only) = let same = only_one own (part.Compact end) (part.Upload one) rest parts are only (λ q is. absurd (cc (is))) in absurd (cc (same))
-compact_whole own end rest parts are (work.Sync gateway) (one, only) = let same = only_one own (part.Compact end) (part.Sync one) rest parts are only (λ q is. absurd (cc (is))) in absurd (cc (same))
-compact_whole own end rest parts are (work.Compact stop) (one, only) = let same = only_one own (part.Compact end) (part.Compact one) rest parts are only (λ q is. absurd (cc (is))) in let inner : end ≡ one = cc (same) in (one, only, ap outcome.Compact inner)
-compact_whole own end rest parts are (work.Clean stop) (one, only) = let same = only_one own (part.Compact end) (part.Clean one) rest parts are only (λ q is. absurd (cc (is))) in absurd (cc (same))
-compact_whole own end rest parts are (work.Query low high selector) (others, all) = absurd (not_all own others (part.Compact end) rest (λ q is. absurd (cc (is))) (sym are ∙ all))
-
--- it was a cleaning's
-clean_whole : (own : List QueryPart) (end : CleanOutcome) (rest parts : List Part) → parts ≡ map part.Query own ++ part.Clean end ∷ rest → (w : Work) → AreAllParts w parts → IsOutcomeOf w parts (outcome.Clean end)
-clean_whole own end rest parts are (work.Upload ulid stop) (one, only) = let same = only_one own (part.Clean end) (part.Upload one) rest parts are only (λ q is. absurd (cc (is))) in absurd (cc (same))
-clean_whole own end rest parts are (work.Sync gateway) (one, only) = let same = only_one own (part.Clean end) (part.Sync one) rest parts are only (λ q is. absurd (cc (is))) in absurd (cc (same))
-clean_whole own end rest parts are (work.Compact stop) (one, only) = let same = only_one own (part.Clean end) (part.Compact one) rest parts are only (λ q is. absurd (cc (is))) in absurd (cc (same))
-clean_whole own end rest parts are (work.Clean stop) (one, only) = let same = only_one own (part.Clean end) (part.Clean one) rest parts are only (λ q is. absurd (cc (is))) in let inner : end ≡ one = cc (same) in (one, only, ap outcome.Clean inner)
-clean_whole own end rest parts are (work.Query low high selector) (others, all) = absurd (not_all own others (part.Clean end) rest (λ q is. absurd (cc (is))) (sym are ∙ all))
+-- one of them was the whole of its task
+first_by : (own : List QueryPart) (one : Part) (o : Outcome) (rest parts : List Part) → parts ≡ map came_to.Query own ++ one ∷ rest → IsWhole one o → (all : Bool) → PartsBy all parts → OutcomeBy all parts o
+first_by own one o rest parts are whole false (other, p, only, also) =
+    (other, only, subst (λ (x : Part). IsWhole x o) (only_one own one other p rest parts are only also) whole)
+first_by own one o rest parts are whole true (others, all) = absurd (not_all own others one o rest whole (sym are ∙ all))
 
 -- the part that comes next is the first of those that are left
 parts_here : (parts yielded : List Part) (x : Part) → map (λ (y : Part). y) yielded ≡ take (length yielded) parts → (length yielded < length parts) × (x ≡ get_or parts (length yielded) x) → parts ≡ yielded ++ x ∷ drop (length yielded + 1) parts
@@ -239,23 +227,8 @@ parts_here parts yielded x so_far turn =
     let at = drop_place parts (length yielded) x (found parts (length yielded) (length yielded) x refl turn.0 turn.1) in
     sym (take-append-drop (length yielded) parts) ∙ ap (λ (l : List Part). l ++ drop (length yielded) parts) (sym so_far ∙ map-id yielded) ∙ ap (λ (l : List Part). yielded ++ l) at
 
-next_is : (own : List QueryPart) (parts yielded : List Part) (x one : Part) → x ≡ one → yielded ≡ map part.Query own → map (λ (y : Part). y) yielded ≡ take (length yielded) parts → (length yielded < length parts) × (x ≡ get_or parts (length yielded) x)
-    → parts ≡ map part.Query own ++ one ∷ drop (length yielded + 1) parts
-next_is own parts yielded x one is are so_far turn =
-    parts_here parts yielded x so_far turn ∙ ap (λ (l : List Part). l ++ x ∷ drop (length yielded + 1) parts) are ∙ ap (λ (y : Part). map part.Query own ++ y ∷ drop (length yielded + 1) parts) is
-
-pub upload_here : (own : List QueryPart) (end : UploadOutcome) (parts yielded : List Part) (x : Part) → x ≡ part.Upload end → yielded ≡ map part.Query own → map (λ (y : Part). y) yielded ≡ take (length yielded) parts → (length yielded < length parts) × (x ≡ get_or parts (length yielded) x)
-    → (w : Work) → AreAllParts w parts → IsOutcomeOf w parts (outcome.Upload end)
-upload_here own end parts yielded x is are so_far turn = upload_whole own end (drop (length yielded + 1) parts) parts (next_is own parts yielded x (part.Upload end) is are so_far turn)
-
-pub sync_here : (own : List QueryPart) (end : SyncOutcome) (parts yielded : List Part) (x : Part) → x ≡ part.Sync end → yielded ≡ map part.Query own → map (λ (y : Part). y) yielded ≡ take (length yielded) parts → (length yielded < length parts) × (x ≡ get_or parts (length yielded) x)
-    → (w : Work) → AreAllParts w parts → IsOutcomeOf w parts (outcome.Sync end)
-sync_here own end parts yielded x is are so_far turn = sync_whole own end (drop (length yielded + 1) parts) parts (next_is own parts yielded x (part.Sync end) is are so_far turn)
-
-pub compact_here : (own : List QueryPart) (end : CompactOutcome) (parts yielded : List Part) (x : Part) → x ≡ part.Compact end → yielded ≡ map part.Query own → map (λ (y : Part). y) yielded ≡ take (length yielded) parts → (length yielded < length parts) × (x ≡ get_or parts (length yielded) x)
-    → (w : Work) → AreAllParts w parts → IsOutcomeOf w parts (outcome.Compact end)
-compact_here own end parts yielded x is are so_far turn = compact_whole own end (drop (length yielded + 1) parts) parts (next_is own parts yielded x (part.Compact end) is are so_far turn)
-
-pub clean_here : (own : List QueryPart) (end : CleanOutcome) (parts yielded : List Part) (x : Part) → x ≡ part.Clean end → yielded ≡ map part.Query own → map (λ (y : Part). y) yielded ≡ take (length yielded) parts → (length yielded < length parts) × (x ≡ get_or parts (length yielded) x)
-    → (w : Work) → AreAllParts w parts → IsOutcomeOf w parts (outcome.Clean end)
-clean_here own end parts yielded x is are so_far turn = clean_whole own end (drop (length yielded + 1) parts) parts (next_is own parts yielded x (part.Clean end) is are so_far turn)
+pub whole_here : (own : List QueryPart) (o : Outcome) (parts yielded : List Part) (one : Part) → IsWhole one o → yielded ≡ map came_to.Query own → map (λ (y : Part). y) yielded ≡ take (length yielded) parts → (length yielded < length parts) × (one ≡ get_or parts (length yielded) one)
+    → (w : Work) → AreAllParts w parts → IsOutcomeOf w parts o
+whole_here own o parts yielded one whole are so_far turn = λ w all.
+    first_by own one o (drop (length yielded + 1) parts) parts
+    (parts_here parts yielded one so_far turn ∙ ap (λ (l : List Part). l ++ one ∷ drop (length yielded + 1) parts) are) whole (asks_all w) all

@@ -19,8 +19,7 @@ use Rattle.script_running.specs.Begun.{WasBegun}
 use Rattle.script_running.specs.Beside.{AreSeen}
 use Rattle.script_running.specs.Cutting.{KnowsPhases, Passed}
 use Rattle.script_running.specs.Going.{HasGone}
-use Rattle.script_running.specs.Outcomes.{PhasesCame, TasksCame}
-use Rattle.script_running.specs.declared.outcome.Outcome.{Outcome}
+use Rattle.script_running.specs.Outcomes.{Outcome, PhasesCame, TasksCame}
 use Rattle.script_running.proofs.Begun.{begun_more}
 use Rattle.script_running.specs.Sights.{Sees, no_sight}
 use Rattle.script_running.specs.declared.sight.Sight.{Sight}

@@ -3,6 +3,7 @@ pub mod Planned
 pub mod Shelves
 pub mod Crossing
 pub mod Stopped
+pub mod Leaving
 pub mod Uploads
 pub mod Texts
 pub mod Syncs

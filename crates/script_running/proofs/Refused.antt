@@ -9,8 +9,7 @@ use Rattle.world_turn.specs.declared.view.View.{View as Known}
 use Rattle.script_workers.specs.declared.phase.Phase.{Phase}
 use Rattle.script_running.specs.Gathering.{HaveCome}
 use Rattle.script_running.specs.Going.{IsClockSet, Met}
-use Rattle.script_running.specs.Tasks.{is_full_came}
-use Rattle.script_running.specs.Workers.{is_short_end}
+use Rattle.script_running.specs.Tasks.{is_full_came, is_short_came}
 use Rattle.script_running.specs.declared.came.Broken.{Broken}
 use Rattle.script_running.specs.declared.came.Broken.TheVariants as broken
 use Rattle.script_running.specs.declared.worker.WorkerEnd.{WorkerEnd}
@@ -75,16 +74,16 @@ all_tell first last same = same ∙ sym (or_false first)
 -- ---- want of memory
 
 abbrev IsShort : WorkerEnd → Bool
-IsShort end = is_short_end end.came
+IsShort end = is_short_came end.came
 
 none_short : (ends : List WorkerEnd) → All (λ (end : WorkerEnd). end.came ≡ Ok tt) ends → list_any IsShort ends ≡ false
 none_short [] all = refl
 none_short (end ∷ ends) all =
-    let first : IsShort end ≡ false = ap is_short_end (All-head (λ (e : WorkerEnd). e.came ≡ Ok tt) end ends all) in
+    let first : IsShort end ≡ false = ap is_short_came (All-head (λ (e : WorkerEnd). e.came ≡ Ok tt) end ends all) in
     ap (λ (b : Bool). b || list_any IsShort ends) first ∙ none_short ends (All-tail (λ (e : WorkerEnd). e.came ≡ Ok tt) end ends all)
 
 -- of workers that all came to all their ends, none wanted memory
-pub come_unwanted : (ends : List WorkerEnd) (came : Came) → HaveCome ends came → came ≡ Ok tt → list_any (λ (end : WorkerEnd). is_short_end end.came) ends ≡ false
+pub come_unwanted : (ends : List WorkerEnd) (came : Came) → HaveCome ends came → came ≡ Ok tt → list_any (λ (end : WorkerEnd). is_short_came end.came) ends ≡ false
 come_unwanted ends (Ok done) all is = none_short ends all
 come_unwanted ends (Err why) all is = absurd (cc is)
 

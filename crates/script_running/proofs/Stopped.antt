@@ -1,6 +1,6 @@
 -- What a drive leaves that comes to its stop after so many operations.
 use Rattle.std.proofs.Common.{◌≡◌, ◌≢◌, ◌⊎◌, ℕ, ◌+◌, ◌<◌, ◌≤◌, Bool, true, false, List, [], ◌∷◌, ◌++◌, length, length-append, refl, sym, subst, inl, inr, arith}
-use Rattle.std.specs.Prelude.{◌↔◌, ◌==◌, Option, Some, None, option_map}
+use Rattle.std.specs.Prelude.{◌↔◌, ◌==◌, Option, Some, None, Result, option_map}
 use Rattle.std.proofs.lemmas.Bool.Decides.{nat_tests}
 use Rattle.world_core.specs.Machines.{Awaits, Drives, end_of}
 use Rattle.world_core.specs.Operations.{entry_of}
@@ -12,10 +12,12 @@ use Rattle.world_core.specs.declared.entry.Entry.{Entry}
 use Rattle.script_workers.specs.declared.work.Work.{Work}
 use Rattle.lifecycle_core.specs.Tasks.{End, IsStop, StoppedRun, stopped}
 use Rattle.lifecycle_core.specs.Ways.{IsDueAfter}
-use Rattle.script_running.specs.Drives.{Came, stopped_came}
-use Rattle.script_running.specs.Outcomes.{IsPart}
+use Rattle.script_running.specs.Drives.{came_by, stop_of}
+use Rattle.script_running.specs.Outcomes.{IsPart, Part}
+use Rattle.script_running.specs.declared.came.Broken.{Broken}
+use Rattle.script_running.specs.declared.came.Stop.{Stop}
+use Rattle.script_running.specs.declared.came.Stop.TheVariants as first
 use Rattle.script_running.specs.Tasks.{Adds, CameBy, WhenFull}
-use Rattle.script_running.specs.declared.part.Part.{Part}
 
 before_stop : {E : Type 0} (stop : Option ℕ) (driven : Driven E) (made : List Entry) → ((n : ℕ) → driven ≢ Stopped n)
     → ((n : ℕ) → (driven ≡ Stopped n) ↔ IsStopped stop made n) → ((n : ℕ) → stop ≡ Some n → 0 < n → length made ≤ n) → IsBefore stop made
@@ -62,43 +64,43 @@ stops_at gives stop Full made stops within = inl (refl, before_stop stop Full ma
 stops_at gives stop NoMemory made stops within = inl (refl, before_stop stop NoMemory made (λ n e. absurd (cc (e))) stops within)
 
 -- the parts of a task's ends
-pub record AreOut {E : Type 0} (work : Work) (gives : E → End) (out : E → Part) (short : ℕ → Part) : Type 0 where
-  pub ends : (end : E) → IsPart work (gives end) (out end)
-  pub stops : (n : ℕ) → IsPart work (stopped n) (short n)
+pub record AreOut {E : Type 0} (work : Work) (gives : E → End) (out : Stop E → Part) : Type 0 where
+  pub ends : (end : E) → IsPart work (gives end) (out (first.Ended end))
+  pub stops : (n : ℕ) → IsPart work (stopped n) (out (first.At n))
 
-comes_so : {E : Type 0} (work : Work) (gives : E → End) (out : E → Part) (short : ℕ → Part) (driven : Driven E) → AreOut work gives out short → CameBy work (stopped_end gives driven) (stopped_came out short driven)
-comes_so work gives out short (Ended end) are = are.ends end
-comes_so work gives out short (Stopped n) are = are.stops n
-comes_so work gives out short Full are = tt
-comes_so work gives out short NoMemory are = tt
+comes_so : {E : Type 0} (work : Work) (gives : E → End) (out : Stop E → Part) (driven : Driven E) → AreOut work gives out → CameBy work (stopped_end gives driven) (came_by out (stop_of driven))
+comes_so work gives out (Ended end) are = are.ends end
+comes_so work gives out (Stopped n) are = are.stops n
+comes_so work gives out Full are = tt
+comes_so work gives out NoMemory are = tt
 
-due : {E : Type 0} (plan : Plan E) (gives : E → End) (out : E → Part) (short : ℕ → Part) (stop : Option ℕ) (seat : ℕ) (driven : Driven E) (made : List Entry)
+due : {E : Type 0} (plan : Plan E) (gives : E → End) (out : Stop E → Part) (stop : Option ℕ) (seat : ℕ) (driven : Driven E) (made : List Entry)
     → (driven ≡ Full → Awaits (Runs plan) seat made) → (driven ≡ Full → IsBefore stop made)
-    → WhenFull (stopped_came out short driven) (IsDueAfter (StoppedRun plan gives stop) seat made)
-due plan gives out short stop seat (Ended end) made waits before = tt
-due plan gives out short stop seat (Stopped n) made waits before = tt
-due plan gives out short stop seat Full made waits before =
+    → WhenFull (came_by out (stop_of driven)) (IsDueAfter (StoppedRun plan gives stop) seat made)
+due plan gives out stop seat (Ended end) made waits before = tt
+due plan gives out stop seat (Stopped n) made waits before = tt
+due plan gives out stop seat Full made waits before =
     let d = waits refl in (
       d.op,
       d.lawful,
       λ seen answer. let on = goes_on gives stop made (entry_of seat d.op seen) (before refl) in
           (on.0, (None, d.more seen answer, on.1)),
     )
-due plan gives out short stop seat NoMemory made waits before = tt
+due plan gives out stop seat NoMemory made waits before = tt
 
 -- A drive of a plan to its stop made a run that is stopped at most, by whose end the task comes out.
-pub stopped_told : {E : Type 0} (plan : Plan E) (gives : E → End) (out : E → Part) (short : ℕ → Part) (stop : Option ℕ) (seat : ℕ) (driven : Driven E) (old new : List Entry) (came : Came) (work : Work)
-    → came ≡ stopped_came out short driven → AreOut work gives out short → Drives (Runs plan) seat stop driven old new
+pub stopped_told : {E : Type 0} (plan : Plan E) (gives : E → End) (out : Stop E → Part) (stop : Option ℕ) (seat : ℕ) (driven : Driven E) (old new : List Entry) (came : Result Part Broken) (work : Work)
+    → came ≡ came_by out (stop_of driven) → AreOut work gives out → Drives (Runs plan) seat stop driven old new
     → (end : Option End) × Adds (StoppedRun plan gives stop) seat old new end came × CameBy work end came
-stopped_told {E} plan gives out short stop seat driven old new came work c are d =
-    subst (λ (x : Came). (end : Option End) × Adds (StoppedRun plan gives stop) seat old new end x × CameBy work end x) (sym c) (
+stopped_told {E} plan gives out stop seat driven old new came work c are d =
+    subst (λ (x : Result Part Broken). (end : Option End) × Adds (StoppedRun plan gives stop) seat old new end x × CameBy work end x) (sym c) (
       stopped_end gives driven,
       record {
         made = d.made;
         entries = d.entries;
         seats = d.seats;
         run = (end_of driven, d.run, stops_at gives stop driven d.made d.stopped d.within);
-        due = due plan gives out short stop seat driven d.made d.waits (full_before stop driven d.made d.stopped d.within);
+        due = due plan gives out stop seat driven d.made d.waits (full_before stop driven d.made d.stopped d.within);
       },
-      comes_so work gives out short driven are,
+      comes_so work gives out driven are,
     )

@@ -11,7 +11,7 @@ use Rattle.base.proofs.Membership.{contains_first, contains_later, member_cases,
 use Rattle.script_workers.specs.declared.worker.Worker.{Worker}
 use Rattle.script_running.specs.declared.gathering.Column.{Column}
 use Rattle.script_running.specs.declared.gathering.Slots.{Slots}
-use Rattle.script_running.specs.declared.part.Part.{Part}
+use Rattle.script_running.specs.Outcomes.{Part}
 use Rattle.script_running.specs.declared.sight.Sight.{Sight}
 use Rattle.script_running.specs.declared.worker.WorkerEnd.{WorkerEnd}
 use Rattle.script_running.specs.declared.came.Broken.{Broken}

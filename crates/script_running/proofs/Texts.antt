@@ -8,7 +8,9 @@ use Rattle.std.proofs.lemmas.Slice.Zip.{AllZip-long}
 use Rattle.base.proofs.Lists.{take_place, slice_get-below}
 use Rattle.base.proofs.Membership.{contains_place}
 use Rattle.base.proofs.Pairs.{AllZip-push}
-use Rattle.matchers.specs.SelectorRefusals.{IsReadable}
+use Rattle.matchers.specs.SelectorRefusals.{IsGivenUp, IsReadable}
+use Rattle.matchers.specs.declared.selector_refusal.SelectorRefusal.{SelectorRefusal}
+use Rattle.matchers.specs.declared.selector_refusal.SelectorRefusal.TheVariants.{BadSelector, BadPattern, PatternSize, ReplicaNamed, NoMemory}
 use Rattle.matchers.specs.SelectorText.{IsSelectorText}
 use Rattle.matchers.specs.declared.matcher.Matcher.{Matcher}
 use Rattle.script_core.specs.Lawful.{IsLawfulScript, IsLawfulSelector}
@@ -52,13 +54,27 @@ read_so selectors number selector (Err e) at same = tt
 pub texts_long : (selectors : List (List Matcher)) (texts : List (List ℕ)) → AreTextsOf selectors texts → length texts ≡ length selectors
 texts_long selectors texts kept = AllZip-long IsTextOf selectors texts kept
 
--- what is read from the text at a place is the selector there
-pub read_again : {E : Type 0} (script : Script) (texts replicas : List (List ℕ)) (number : ℕ) (r : Result (List Matcher) E) → IsLawfulScript script → replicas ≡ script.rules.replicas → AreTextsOf script.selectors texts → number < length script.selectors
-    → ((text : List ℕ) (selector : List Matcher) → slice_get texts number ≡ Some text → IsReadable text replicas selector → IfOk r (λ read. read ≡ selector)) → IfOk r (λ read. slice_get script.selectors number ≡ Some read)
-read_again script texts replicas number r lawful same kept below reads =
-    let s = slice_get-below script.selectors number below in
-    let long = texts_long script.selectors texts kept in
-    let t = slice_get-below texts number (omega (arith, long, below)) in
-    let allowed = All-contains (IsLawfulSelector script.rules.replicas) script.selectors s.0 lawful.selectors (contains_place script.selectors number s.0 s.1) in
-    let may = subst (λ (l : List (List ℕ)). IsReadable t.0 l s.0) (sym same) (readable script.rules.replicas t.0 s.0 allowed (zip_at IsTextOf script.selectors texts number s.0 t.0 kept s.1 t.1)) in
-    read_so script.selectors number s.0 r s.1 (reads t.0 s.0 t.1 may)
+module _ (script : Script) (texts replicas : List (List ℕ)) (number : ℕ) (lawful : IsLawfulScript script) (same : replicas ≡ script.rules.replicas) (kept : AreTextsOf script.selectors texts) (below : number < length script.selectors) where
+  -- the text at a place is that of the selector there
+  stands_there : (selector : List Matcher) × (slice_get script.selectors number ≡ Some selector) × ((text : List ℕ) × (slice_get texts number ≡ Some text) × IsReadable text replicas selector)
+  stands_there =
+      let s = slice_get-below script.selectors number below in
+      let long = texts_long script.selectors texts kept in
+      let t = slice_get-below texts number (omega (arith, long, below)) in
+      let allowed = All-contains (IsLawfulSelector script.rules.replicas) script.selectors s.0 lawful.selectors (contains_place script.selectors number s.0 s.1) in
+      (s.0, s.1, (t.0, t.1, subst (λ (l : List (List ℕ)). IsReadable t.0 l s.0) (sym same) (readable script.rules.replicas t.0 s.0 allowed (zip_at IsTextOf script.selectors texts number s.0 t.0 kept s.1 t.1))))
+
+  pub read_before : (text : List ℕ) × (selector : List Matcher) × (slice_get texts number ≡ Some text) × IsReadable text replicas selector
+  read_before = let (selector, is, (text, stands, may)) = stands_there in (text, selector, stands, may)
+
+  -- what is read from it is the selector
+  pub read_again : {E : Type 0} (r : Result (List Matcher) E) → ((text : List ℕ) (selector : List Matcher) → slice_get texts number ≡ Some text → IsReadable text replicas selector → IfOk r (λ read. read ≡ selector)) → IfOk r (λ read. slice_get script.selectors number ≡ Some read)
+  read_again r reads = let (selector, is, (text, stands, may)) = stands_there in read_so script.selectors number selector r is (reads text selector stands may)
+
+-- what is given up is memory, or a pattern's size
+pub only_given_up : (text : List ℕ) (refusal : SelectorRefusal) → IsGivenUp text refusal → (refusal ≡ NoMemory → ⊥) → ((place : ℕ) → refusal ≡ PatternSize place → ⊥) → ⊥
+only_given_up text (BadSelector place) given memory size = given
+only_given_up text (BadPattern place) given memory size = given
+only_given_up text (PatternSize place) given memory size = size place refl
+only_given_up text (ReplicaNamed name) given memory size = given
+only_given_up text NoMemory given memory size = memory refl

@@ -1,6 +1,6 @@
 -- A worker's tasks, one after another.
-use Rattle.std.proofs.Common.{◌≡◌, ◌||◌, Bool, true, false, ℕ, zero, suc, ◌+◌, ◌<◌, List, [], ◌∷◌, ◌++◌, length, take, drop, get_or, refl, sym, ◌∙◌, ap, subst, inl, inr, append_assoc, arith}
-use Rattle.std.specs.Prelude.{Option, Some, None, Ok, Err, Result, IfSome, slice_get}
+use Rattle.std.proofs.Common.{◌≡◌, true, ℕ, zero, suc, ◌+◌, ◌<◌, List, [], ◌∷◌, ◌++◌, length, take, drop, get_or, refl, sym, ◌∙◌, ap, subst, inl, inr, append_assoc, arith}
+use Rattle.std.specs.Prelude.{Option, Some, None, Ok, Err, Result, slice_get}
 use Rattle.std.specs.List.{All}
 use Rattle.std.proofs.lemmas.List.{append-nil, length-append, take_more}
 use Rattle.std.proofs.lemmas.Option.{slice_get-get_or}
@@ -16,17 +16,14 @@ use Rattle.lifecycle_core.specs.Setting.{Setting}
 use Rattle.lifecycle_core.specs.Tasks.{End, TaskRun}
 use Rattle.lifecycle_core.proofs.phases.RunsInLine.{may_begin}
 use Rattle.lifecycle_core.proofs.phases.TaskRuns.{MayBegin}
-use Rattle.script_running.specs.Drives.{Came}
-use Rattle.script_running.specs.Outcomes.{IsPart}
+use Rattle.script_running.specs.Outcomes.{IsPart, Part}
 use Rattle.script_running.specs.Sights.{Sees}
 use Rattle.script_running.specs.Tasks.{CameBy, HasDone, WhenDone, is_full_came}
 use Rattle.script_running.specs.Workers.{AreParts, HasWorked, IsBrokenOff, OwnRun}
 use Rattle.script_running.specs.declared.came.Broken.{Broken}
 use Rattle.script_running.specs.declared.came.Broken.TheVariants as broken
-use Rattle.script_running.specs.declared.part.Part.{Part}
 use Rattle.script_running.specs.declared.sight.Sight.{Sight}
 use Rattle.script_running.specs.declared.worker.WorkerEnd.{WorkerEnd}
-use Rattle.base.proofs.Bools.{or_false}
 use Rattle.base.proofs.Membership.{All-place}
 use Rattle.base.proofs.Lists.{slice_get-below}
 
@@ -69,25 +66,6 @@ parts_on own more [] parts are = are
 parts_on [] more (e ∷ ends) parts are = absurd are
 parts_on (a ∷ own) more (e ∷ ends) [] are = absurd are
 parts_on (a ∷ own) more (e ∷ ends) (o ∷ parts) are = (are.0, parts_on own more ends parts are.1)
-
--- ---- what was refused
-
--- a task that came to its end was refused nothing
-pub refused_none : (first mid new : Bool) (came : Came) (o : Part) → new ≡ (mid || is_full_came came) → came ≡ Ok o → mid ≡ first → new ≡ first
-refused_none first mid new came o is so same = is ∙ ap (λ (r : Came). mid || is_full_came r) so ∙ or_false mid ∙ same
-
--- the task that broke off tells of the worker
-pub refused_broken : (first mid new : Bool) (came : Came) (why : Broken) → new ≡ (mid || is_full_came came) → came ≡ Err why → mid ≡ first → new ≡ (first || is_full_came {X = Unit {0}} (Err why))
-refused_broken first mid new came broken.Full is so same = is ∙ ap (λ (r : Came). mid || is_full_came r) so ∙ ap (λ (b : Bool). b || true) same
-refused_broken first mid new came broken.NoMemory is so same = is ∙ ap (λ (r : Came). mid || is_full_came r) so ∙ ap (λ (b : Bool). b || false) same
-
--- a worker that was not refused
-pub unrefused : (first new : Bool) (came : Result (Unit {0}) Broken) → is_full_came came ≡ false → new ≡ first → new ≡ (first || is_full_came came)
-unrefused first new came none same = same ∙ sym (or_false first) ∙ ap (λ (b : Bool). first || b) (sym none)
-
--- a task that was broken off for want of memory breaks its worker off for that
-pub short_by : (came : Came) (why : Broken) → came ≡ Err why → came ≡ Err broken.NoMemory → ◌≡◌ {A = Result (Unit {0}) Broken} (Err why) (Err broken.NoMemory)
-short_by came why is none = let same : why ≡ broken.NoMemory = cc (is, none) in ap (λ (b : Broken). Err b) same
 
 pub full_end : (came : Result (Unit {0}) Broken) → is_full_came came ≡ true → came ≡ Err broken.Full
 full_end (Ok tt) is = absurd (cc (is))
@@ -189,7 +167,7 @@ module _ (setting : Setting) (tasks : List Task) (who : Who) (places : List ℕ)
   none_by work (Some end) broken.NoMemory by = absurd by
 
   cut_off : (more : List Assigned) (why : Broken) → All (λ (a : Assigned). MayBegin setting a.task.work) more → (d : HasDone setting who place task.work w.next seat mid new sight (Err why))
-      → IsBrokenOff setting who seat before (w.own ++ this ∷ more) (w.made ++ d.made) (w.ends ++ []) (Err why)
+      → IsBrokenOff (OwnRun setting who before (w.own ++ this ∷ more)) (length (w.own ++ this ∷ more)) seat (w.made ++ d.made) (w.ends ++ []) (Err why)
   cut_off more broken.NoMemory begin d = tt
   cut_off more broken.Full begin d = (
     omega (arith, length-append w.own (this ∷ more), length-append w.ends [], w.whole),
@@ -217,7 +195,7 @@ module _ (setting : Setting) (tasks : List Task) (who : Who) (places : List ℕ)
     run = cut_run more d.made d.end d.after d.run (none_by task.work d.end why d.by);
     parts = subst (AreParts (w.own ++ this ∷ more) (w.ends ++ [])) (sym told) (subst (λ (es : List End). AreParts (w.own ++ this ∷ more) es parts) (sym (append-nil w.ends)) (parts_on w.own (this ∷ more) w.ends parts w.told));
     sees = subst (λ (r : Result (Unit {0}) Broken). WhenDone r (Sees d.after end.sight)) (sym came) tt;
-    broken = subst (IsBrokenOff setting who seat before (w.own ++ this ∷ more) (w.made ++ d.made) (w.ends ++ [])) (sym came) (cut_off more why begin d);
+    broken = subst (IsBrokenOff (OwnRun setting who before (w.own ++ this ∷ more)) (length (w.own ++ this ∷ more)) seat (w.made ++ d.made) (w.ends ++ [])) (sym came) (cut_off more why begin d);
   }
 
 -- all tasks were done
@@ -237,7 +215,7 @@ all_worked setting tasks who places all before seat old new sight parts end is t
       (w.onward [] [] [] w.next (λ all. (refl, refl, refl)))));
   parts = subst (AreParts w.own w.ends) (sym told) w.told;
   sees = subst (λ (r : Result (Unit {0}) Broken). WhenDone r (Sees w.next end.sight)) (sym came) (subst (Sees w.next) (sym same) w.sees);
-  broken = subst (IsBrokenOff setting who seat before w.own w.made w.ends) (sym came) w.whole;
+  broken = subst (IsBrokenOff (OwnRun setting who before w.own) (length w.own) seat w.made w.ends) (sym came) w.whole;
 }
 
 -- ---- where nothing was done
@@ -270,7 +248,7 @@ none_done setting tasks who places before seat journal end lawful allowed within
       run = none_run setting who before own.0 begin;
       parts = told;
       sees = subst (λ (r : Result (Unit {0}) Broken). WhenDone r (Sees before end.sight)) (sym came) tt;
-      broken = subst (IsBrokenOff setting who seat before own.0 [] []) (sym came) tt;
+      broken = subst (IsBrokenOff (OwnRun setting who before own.0) (length own.0) seat [] []) (sym came) tt;
     }
 
 -- ---- a turn of the loop
@@ -295,19 +273,19 @@ module _ (setting : Setting) (tasks : List Task) (who : Who) (places : List ℕ)
   found : slice_get tasks place ≡ Some task
   found = at_place tasks place task (place_within tasks places number place below is within) at
 
-  pub step_worked : (outs : List Part) (o : Part) (came : Came) → came ≡ Ok o → outs ≡ parts ++ o ∷ [] → ((held : Holding) → Sees held shown → HasDone setting who place task.work held own_seat mid new sight came)
+  pub step_worked : (outs : List Part) (o : Part) (came : Result Part Broken) → came ≡ Ok o → outs ≡ parts ++ o ∷ [] → ((held : Holding) → Sees held shown → HasDone setting who place task.work held own_seat mid new sight came)
       → Worked setting tasks who (take (number + 1) places) before seat old new sight outs
   step_worked outs o came ok told done =
-      let d = subst (λ (s : ℕ). HasDone setting who place task.work w.next s mid new sight (Ok o)) same (subst (λ (x : Came). HasDone setting who place task.work w.next own_seat mid new sight x) ok (done w.next w.sees)) in
+      let d = subst (λ (s : ℕ). HasDone setting who place task.work w.next s mid new sight (Ok o)) same (subst (λ (x : Result Part Broken). HasDone setting who place task.work w.next own_seat mid new sight x) ok (done w.next w.sees)) in
       subst (λ (os : List Part). Worked setting tasks who (take (number + 1) places) before seat old new sight os) (sym told)
       (subst (λ (ps : List ℕ). Worked setting tasks who ps before seat old new sight (parts ++ o ∷ [])) (sym (front_more places number place below is))
       (more_worked setting tasks who (take number places) before seat old mid new shown sight parts place task found w o d))
 
-  pub step_broken : (why : Broken) (came : Came) (end : WorkerEnd) → IsLawfulScript setting.script → All (λ t. IsLawfulWork setting.script.gateways setting.script.blocks (length setting.script.selectors) t.work) tasks
+  pub step_broken : (why : Broken) (came : Result Part Broken) (end : WorkerEnd) → IsLawfulScript setting.script → All (λ t. IsLawfulWork setting.script.gateways setting.script.blocks (length setting.script.selectors) t.work) tasks
       → came ≡ Err why → end.parts.items ≡ parts → end.came ≡ Err why → ((held : Holding) → Sees held shown → HasDone setting who place task.work held own_seat mid new sight came)
       → HasWorked setting tasks who places before seat old new end
   step_broken why came end lawful allowed err told broke done =
-      let d = subst (λ (s : ℕ). HasDone setting who place task.work w.next s mid new sight (Err why)) same (subst (λ (x : Came). HasDone setting who place task.work w.next own_seat mid new sight x) err (done w.next w.sees)) in
+      let d = subst (λ (s : ℕ). HasDone setting who place task.work w.next s mid new sight (Err why)) same (subst (λ (x : Result Part Broken). HasDone setting who place task.work w.next own_seat mid new sight x) err (done w.next w.sees)) in
       let more = assigned tasks (drop (number + 1) places) (All-drop (λ p. p < length tasks) (number + 1) places within) in
       let begin = tasks_begin setting tasks (may_begin setting tasks lawful allowed) (drop (number + 1) places) more.0 more.1 in
       broken_worked setting tasks who (take number places) before seat old mid new shown sight parts place task found w places (drop (number + 1) places) more.0 why end

@@ -9,11 +9,10 @@ use Rattle.lifecycle_core.specs.Phases.{IsFinished, IsInTurn, IsRunOf, by_worker
 use Rattle.lifecycle_core.specs.Setting.{Setting}
 use Rattle.lifecycle_core.specs.Tasks.{End}
 use Rattle.lifecycle_core.specs.Ways.{AreFinished}
-use Rattle.script_running.specs.Outcomes.{PhasesCame}
+use Rattle.script_running.specs.Outcomes.{Outcome, PhasesCame}
 use Rattle.script_running.specs.Sights.{Sees}
 use Rattle.script_running.specs.declared.came.Broken.{Broken}
 use Rattle.script_running.specs.declared.came.Broken.TheVariants as broken
-use Rattle.script_running.specs.declared.outcome.Outcome.{Outcome}
 use Rattle.script_running.specs.declared.sight.Sight.{Sight}
 
 -- gateways that hold this see by these

@@ -1,25 +1,21 @@
 -- What a worker's part of a task comes to, and what drives of its machine come to.
-use Rattle.std.specs.Prelude.{ℕ, Result, Ok, Err}
+use Rattle.std.specs.Prelude.{ℕ, Option, Some, Result, Ok, Err}
 use Rattle.world_core.specs.declared.driving.Driven.{Driven}
 use Rattle.world_core.specs.declared.driving.Driven.TheVariants as driven
 use Rattle.shipper.specs.declared.upload.UploadEnd.{UploadEnd}
 use Rattle.meta_fetcher.specs.declared.sync.SyncEnd.{SyncEnd}
 use Rattle.compactor.specs.declared.compact_end.CompactEnd.{CompactEnd}
 use Rattle.cleaner.specs.declared.clean.CleanEnd.{CleanEnd}
-use Rattle.script_running.specs.Outcomes.{clean_outcome, compact_outcome, sync_outcome, upload_outcome}
+use Rattle.store_ranges.specs.declared.cache.IndexCache.{IndexCache}
+use Rattle.store_calls.specs.declared.running.CallLeft.{CallLeft}
+use Rattle.script_running.specs.Outcomes.{Part, call_part, sync_outcome}
 use Rattle.script_running.specs.declared.came.Broken.{Broken}
 use Rattle.script_running.specs.declared.came.Broken.TheVariants as broken
-use Rattle.script_running.specs.declared.outcome.UploadOutcome.TheVariants as upload
-use Rattle.script_running.specs.declared.outcome.CompactOutcome.TheVariants as compact
-use Rattle.script_running.specs.declared.outcome.CleanOutcome.TheVariants as clean
-use Rattle.script_running.specs.declared.part.Part.{Part}
-use Rattle.script_running.specs.declared.part.Part.TheVariants as part
+use Rattle.script_running.specs.declared.came.Came.TheVariants as part
+use Rattle.script_running.specs.declared.came.Stop.{Stop}
+use Rattle.script_running.specs.declared.came.Stop.TheVariants as stop
 use Rattle.script_running.specs.declared.unshipped.Unshipped.{Unshipped}
 use Rattle.script_running.specs.declared.unshipped.Unshipped.TheVariants as unshipped
-
--- a worker's part of the task, or what broke it off
-abbrev pub Came : Type 0
-Came = Result Part Broken
 
 -- the end of a drive that nothing stops
 abbrev pub driven_end : {E : Type 0} → Driven E → Result E Broken
@@ -28,31 +24,42 @@ driven_end (driven.Stopped count) = Err broken.NoMemory
 driven_end driven.Full = Err broken.Full
 driven_end driven.NoMemory = Err broken.NoMemory
 
+-- the end of a drive, or its stop after so many operations
+abbrev pub stop_of : {E : Type 0} → Driven E → Result (Stop E) Broken
+stop_of (driven.Ended end) = Ok (stop.Ended end)
+stop_of (driven.Stopped count) = Ok (stop.At count)
+stop_of driven.Full = Err broken.Full
+stop_of driven.NoMemory = Err broken.NoMemory
+
 -- what a task comes to whose end comes out so
-abbrev pub came_by : {E : Type 0} → (E → Part) → Result E Broken → Came
+abbrev pub came_by : {E : Type 0} → (E → Part) → Result E Broken → Result Part Broken
 came_by out (Ok end) = Ok (out end)
 came_by out (Err why) = Err why
 
+abbrev pub upload_came : Driven UploadEnd → Result Part Broken
+upload_came driven = came_by (λ end. part.Upload end) (stop_of driven)
+
 -- what an upload comes to whose block has no objects
-abbrev pub unshipped_came : Unshipped → Came
-unshipped_came (unshipped.Refused number) = Ok (part.Upload (upload.Refused number))
+abbrev pub unshipped_came : Unshipped → Result Part Broken
+unshipped_came (unshipped.Refused number) = Ok (part.Unshipped number)
 unshipped_came unshipped.NoMemory = Err broken.NoMemory
 
--- the end of a drive that comes to its stop after so many operations
-abbrev pub stopped_came : {E : Type 0} → (E → Part) → (ℕ → Part) → Driven E → Came
-stopped_came out short (driven.Ended end) = Ok (out end)
-stopped_came out short (driven.Stopped count) = Ok (short count)
-stopped_came out short driven.Full = Err broken.Full
-stopped_came out short driven.NoMemory = Err broken.NoMemory
-
-abbrev pub upload_came : Driven UploadEnd → Came
-upload_came = stopped_came (λ end. part.Upload (upload_outcome end)) (λ count. part.Upload (upload.Stopped count))
-
-abbrev pub compact_came : Driven CompactEnd → Came
-compact_came = stopped_came (λ end. part.Compact (compact_outcome end)) (λ count. part.Compact (compact.Stopped count))
-
-abbrev pub clean_came : Driven CleanEnd → Came
-clean_came = stopped_came (λ end. part.Clean (clean_outcome end)) (λ count. part.Clean (clean.Stopped count))
-
-abbrev pub sync_came : Driven SyncEnd → Came
+abbrev pub sync_came : Driven SyncEnd → Result Part Broken
 sync_came driven = came_by (λ end. part.Sync (sync_outcome end)) (driven_end driven)
+
+abbrev pub compact_came : Driven CompactEnd → Result Part Broken
+compact_came driven = came_by (λ end. part.Compact end) (stop_of driven)
+
+abbrev pub clean_came : Driven CleanEnd → Result Part Broken
+clean_came driven = came_by (λ end. part.Clean end) (stop_of driven)
+
+-- a gateway's part of a query, over a view with this first entry
+abbrev pub call_came : ℕ → Driven CallLeft → Result Part Broken
+call_came first driven = came_by (λ left. part.Query (call_part first left.end)) (driven_end driven)
+
+-- the ranges that are kept after its call
+abbrev pub cache_by : Option IndexCache → Driven CallLeft → Option IndexCache
+cache_by before (driven.Ended left) = Some left.cache
+cache_by before (driven.Stopped count) = before
+cache_by before driven.Full = before
+cache_by before driven.NoMemory = before

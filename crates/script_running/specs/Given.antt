@@ -1,7 +1,7 @@
 -- What the first gateways gave to a query.
 use Rattle.std.specs.Prelude.{◌≡◌, List}
 use Rattle.script_running.specs.Outcomes.{answers_of, first_none, names_of}
-use Rattle.script_running.specs.declared.part.QueryPart.{QueryPart}
+use Rattle.script_running.specs.declared.outcome.QueryPart.{QueryPart}
 use Rattle.script_running.specs.declared.query_parts.Given.{Given}
 
 -- By these parts this is told.

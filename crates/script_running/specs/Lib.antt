@@ -10,9 +10,12 @@ pub mod Cutting
 pub mod Begun
 pub mod Ended
 pub mod Beside
+pub mod Reporting
 pub mod Going
 pub mod Gathering
-pub mod Reporting
 pub use Rattle.world_core.specs.Machines
 pub use Rattle.world_core.specs.Keeping
+pub use Rattle.shipper
+pub use Rattle.compactor
+pub use Rattle.cleaner
 pub use Rattle.lifecycle_core

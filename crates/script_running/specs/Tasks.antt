@@ -1,5 +1,5 @@
 -- What a worker's hand gains by one task, and what the task came to.
-use Rattle.std.specs.Prelude.{◌≡◌, ℕ, ℤ, Bool, true, false, List, ◌++◌, length, All, Option, Some, None, Result, Ok, Err}
+use Rattle.std.specs.Prelude.{◌≡◌, ℕ, Bool, true, false, List, ◌++◌, length, All, Option, Some, None, Result, Ok, Err}
 use Rattle.world_core.specs.declared.entry.Entry.{Entry}
 use Rattle.meta_fetcher.specs.declared.sync.SyncEnd.{SyncEnd}
 use Rattle.meta_fetcher.specs.declared.sync.SyncEnd.TheVariants as fetched
@@ -8,14 +8,12 @@ use Rattle.store_ranges.specs.Reads.{Query as Question}
 use Rattle.script_core.specs.Lawful.{IsLawfulWork}
 use Rattle.script_core.specs.declared.script.Script.{Script}
 use Rattle.script_workers.specs.declared.work.Work.{Work}
-use Rattle.script_workers.specs.declared.work.Work.TheVariants.{Query}
 use Rattle.lifecycle_core.specs.Conducts.{Who}
 use Rattle.lifecycle_core.specs.Holdings.{Holding}
 use Rattle.lifecycle_core.specs.Setting.{Setting}
 use Rattle.lifecycle_core.specs.Tasks.{End, QueryTask, TaskRun}
 use Rattle.lifecycle_core.specs.Ways.{IsDueAfter}
-use Rattle.script_running.specs.Drives.{Came}
-use Rattle.script_running.specs.Outcomes.{IsPart}
+use Rattle.script_running.specs.Outcomes.{IsGatewayPart, IsPart, Part}
 use Rattle.script_running.specs.Sights.{Sees}
 use Rattle.script_running.specs.declared.came.Broken.{Broken}
 use Rattle.script_running.specs.declared.came.Broken.TheVariants as broken
@@ -42,22 +40,32 @@ is_full_came (Ok x) = false
 is_full_came (Err broken.Full) = true
 is_full_came (Err broken.NoMemory) = false
 
+-- whether memory was wanting
+abbrev pub is_short_came : {X : Type 0} → Result X Broken → Bool
+is_short_came (Ok x) = false
+is_short_came (Err broken.Full) = false
+is_short_came (Err broken.NoMemory) = true
+
 -- entries that one seat added, which with this end are such a run
-pub record Adds {E : Type 0} (is_run : List Entry → E → Type 0) (seat : ℕ) (old new : List Entry) (end : E) (came : Came) : Type 0 where
+pub record Adds {E : Type 0} (is_run : List Entry → E → Type 0) (seat : ℕ) (old new : List Entry) (end : E) (came : Result Part Broken) : Type 0 where
   pub made : List Entry
   pub entries : new ≡ old ++ made
   pub seats : All (λ e. e.seat ≡ seat) made
   pub run : is_run made end
   pub due : WhenFull came (IsDueAfter is_run seat made)
 
--- A worker's part of a task comes to its end, or breaks off without one.
-abbrev pub CameBy : Work → Option End → Came → Type 0
-CameBy work (Some end) (Ok own) = IsPart work end own
-CameBy work (Some end) (Err broken.Full) = ⊥
-CameBy work (Some end) (Err broken.NoMemory) = ⊥
-CameBy work None (Ok own) = ⊥
-CameBy work None (Err broken.Full) = Unit {0}
-CameBy work None (Err broken.NoMemory) = Unit {0}
+-- A part comes to its end, or breaks off without one.
+abbrev pub CameAs : (End → Part → Type 0) → Option End → Result Part Broken → Type 0
+CameAs is_part (Some end) (Ok own) = is_part end own
+CameAs is_part (Some end) (Err broken.Full) = ⊥
+CameAs is_part (Some end) (Err broken.NoMemory) = ⊥
+CameAs is_part None (Ok own) = ⊥
+CameAs is_part None (Err broken.Full) = Unit {0}
+CameAs is_part None (Err broken.NoMemory) = Unit {0}
+
+-- a worker's part of a task
+abbrev pub CameBy : Work → Option End → Result Part Broken → Type 0
+CameBy work = CameAs (IsPart work)
 
 -- the view that a sync leaves: a sync that came to none, or was broken off, leaves what was seen before
 abbrev pub view_by : Option View → Option SyncEnd → Option View
@@ -73,7 +81,7 @@ Does setting who place work before made end = (after : Holding) × TaskRun setti
 
 -- A worker that held this did a task: what its hand's list gained is a run of the task, with the end by which it came out. It
 -- holds what the run leaves, and where the run came to its end, it sees by this.
-pub record HasDone (setting : Setting) (who : Who) (place : ℕ) (work : Work) (before : Holding) (seat : ℕ) (old new : List Entry) (sight : Sight) (came : Came) : Type 0 where
+pub record HasDone (setting : Setting) (who : Who) (place : ℕ) (work : Work) (before : Holding) (seat : ℕ) (old new : List Entry) (sight : Sight) (came : Result Part Broken) : Type 0 where
   pub made : List Entry
   pub entries : new ≡ old ++ made
   pub seats : All (λ e. e.seat ≡ seat) made
@@ -90,9 +98,9 @@ Answers asked before made one = QueryTask before.used (Some asked) before made o
 
 -- A gateway that held this was asked a question: with the view of what it holds, if it has one. What its hand's list gained is a run of
 -- its answer, with the end by which it came out. Where that came to its end, it sees by this.
-pub record HasAsked (before : Holding) (asked : Question) (seat : ℕ) (old new : List Entry) (sight : Sight) (came : Came) : Type 0 where
+pub record HasAsked (before : Holding) (asked : Question) (seat : ℕ) (old new : List Entry) (sight : Sight) (came : Result Part Broken) : Type 0 where
   pub end : Option End
   pub after : Holding
   pub adds : Adds (Answers asked before) seat old new (end, after) came
   pub sees : WhenDone came (Sees after sight)
-  pub by : (low high : ℤ) (selector : ℕ) → CameBy (Query low high selector) end came
+  pub by : CameAs IsGatewayPart end came

@@ -9,8 +9,8 @@ mod declared;
 mod gathering;
 mod means;
 mod outcome;
-mod part;
 mod plan;
+mod progress;
 mod query_parts;
 mod report;
 mod shelf;
@@ -21,17 +21,21 @@ mod unshipped;
 mod upkeep;
 mod worker;
 
-pub use beside::{RunEnd, run_beside};
-pub use came::{Broken, Came};
+pub use beside::{Lent, RunEnd, run_beside};
+pub use came::{Broken, Came, Outcome, Part, Stop};
+pub use cleaner;
+pub use cleaner::CleanEnd;
+pub use compactor;
+pub use compactor::CompactEnd;
+pub use gathering::{Staffed, gather, jobs_of};
 pub use means::{Means, selector_texts};
-pub use outcome::{
-    CleanOutcome, CompactOutcome, NoAnswer, Outcome, OutcomeList, QueryOutcome, SyncOutcome,
-    UploadOutcome,
-};
-pub use part::{Part, QueryPart};
+pub use outcome::{NoAnswer, QueryOutcome, QueryPart, SyncOutcome};
+pub use progress::Progress;
 pub use query_parts::outcome_of;
 pub use report::Report;
 pub use shelf::{ShelfBlock, ShelfBlockList, ShelfFound, cause_number};
+pub use shipper;
+pub use shipper::UploadEnd;
 pub use sight::Sight;
 pub use task::run_task;
 pub use worker::{WorkerEnd, WorkerJob};

@@ -2,7 +2,7 @@
 //! have the texts of the selectors, and read those of their own queries again.
 
 ghost use Rattle.std.specs.Prelude.{◌≡◌, ◌<◌, ℕ, List, Some, IfOk, length, slice_get};
-ghost use Rattle.matchers.specs.SelectorRefusals.{IsReadable};
+ghost use Rattle.matchers.specs.SelectorRefusals.{IsGivenUp, IsReadable};
 ghost use Rattle.matchers.specs.declared.matcher.Matcher.{Matcher};
 ghost use Rattle.script_running.specs.Lending.{AreTextsOf};
 
@@ -10,7 +10,7 @@ use crate::ShelfBlock;
 use crate::declared::{block_among, find_block};
 use base::NoMemory;
 use label_sets::{Text, TextList, sample_count};
-use matchers::{Selector, SelectorList};
+use matchers::{Selector, SelectorList, SelectorRefusal};
 use moment_core::{PartitionList, Rules};
 use script_core::{Block, Body, Script, Work};
 use std::alloc::Global;
@@ -18,10 +18,11 @@ use std::marker::Model;
 use std::snapshot::Snapshot;
 use ulid_core::Ulid;
 
-/// What the workers of a script are lent of it, and what was read of the shelf for its blocks. All this crosses threads. A selector
+/// What the workers of a script are lent: parts of it, and what was read of the shelf for its blocks. All this crosses threads. A selector
 /// that was read does not, since it has patterns, so its text is lent.
 #[derive(Drop)]
 pub struct Means<'a> {
+    alloc: Global,
     rules: &'a Rules,
     partitions: &'a PartitionList,
     blocks: &'a [Block],
@@ -69,7 +70,12 @@ impl<'a> Means<'a> {
     ghost use Rattle.script_running.specs.Shelves.{AreAllAtHand, Knows};
 
     /// What is lent of a script whose selectors have these texts.
-    pub fn lend(script: &'a Script, shelf: &'a [ShelfBlock], texts: &'a [Text]) -> Means<'a>
+    pub fn lend(
+        alloc: Global,
+        script: &'a Script,
+        shelf: &'a [ShelfBlock],
+        texts: &'a [Text],
+    ) -> Means<'a>
         requires lawful { IsLawfulScript script.now }
         requires at_hand { AreAllAtHand script.now shelf.now }
         requires texts { AreTextsOf script.now.selectors texts.now }
@@ -77,6 +83,7 @@ impl<'a> Means<'a> {
         ensures shelf { result.shelf ≡ shelf.now }
     {
         Means {
+            alloc,
             rules: &script.rules,
             partitions: &script.partitions,
             blocks: script.blocks.members(),
@@ -84,6 +91,11 @@ impl<'a> Means<'a> {
             texts,
             script: Snapshot::of(script),
         }
+    }
+
+    /// Of which the workers take their memory.
+    pub(crate) fn alloc(&self) -> Global {
+        self.alloc
     }
 
     pub(crate) fn rules(&self) -> &Rules
@@ -128,12 +140,12 @@ impl<'a> Means<'a> {
     }
 
     /// The selector at a place, which is read from its text.
-    pub(crate) fn selector(&self, alloc: Global, place: usize) -> Result<Selector, NoMemory>
+    pub(crate) fn selector(&self, place: usize) -> Result<Selector, NoMemory>
         requires { place < length self.now.script.selectors }
         ensures { IfOk result
             (λ selector. slice_get self.now.script.selectors place ≡ Some selector) }
     {
-        read_at(alloc, self.texts, &self.rules.replicas, place)
+        read_at(self.alloc, self.texts, &self.rules.replicas, place)
     }
 }
 
@@ -145,19 +157,31 @@ fn samples_in(body: &Body) -> u64 {
     }
 }
 
-/// Reads the text at a place, of a selector that was read once. Where a pattern is too large now, it is given up as for want of memory.
+/// What is wanting where a text was read before: memory, or that the size of a pattern is taken again, which nobody promises.
+fn given_up(refusal: SelectorRefusal) -> NoMemory
+    requires { (text : List ℕ) × IsGivenUp text refusal }
+{
+    match &refusal {
+        SelectorRefusal::NoMemory | SelectorRefusal::PatternSize(_) => NoMemory,
+        _ => unreachable!(),
+    }
+}
+
+/// Reads the text at a place, of a selector that was read once.
 fn read_at(
     alloc: Global,
     texts: &[Text],
     replicas: &TextList,
     place: usize,
 ) -> Result<Selector, NoMemory>
-    requires { place < length texts.now }
+    requires place { place < length texts.now }
+    requires read { (text : List ℕ) × (selector : List Matcher)
+        × (slice_get texts.now place ≡ Some text) × IsReadable text replicas.now selector }
     ensures { (text : List ℕ) (selector : List Matcher) → slice_get texts.now place ≡ Some text
         → IsReadable text replicas.now selector → IfOk result (λ read. read ≡ selector) }
 {
     match Selector::read(alloc, texts[place].as_str(), replicas) {
         Ok(selector) => Ok(selector),
-        Err(_) => Err(NoMemory),
+        Err(refusal) => Err(given_up(refusal)),
     }
 }

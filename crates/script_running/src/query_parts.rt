@@ -1,13 +1,13 @@
 //! A task's outcome, from the parts of those who did it.
 
-ghost use Rattle.std.specs.Prelude.{◌≡◌, ◌<◌, ◌^◌, [], ◌∷◌, ◌++◌, List, IfOk, OnOk, length};
+ghost use Rattle.std.specs.Prelude.{◌≡◌, ◌<◌, ◌^◌, [], ◌∷◌, ◌++◌, List, Some, IfOk, MatchResult, OnOk, length};
 ghost use Rattle.script_workers.specs.declared.work.Work.{Work};
 ghost use Rattle.script_running.specs.Given.{HasGiven};
-ghost use Rattle.script_running.specs.Outcomes.{AreAllParts, IsOutcomeOf, IsQueryOutcome};
-ghost use Rattle.script_running.specs.declared.part.QueryPart.{QueryPart};
-ghost use Rattle.script_running.specs.declared.part.QueryPart.TheVariants as gives;
+ghost use Rattle.script_running.specs.Outcomes.{AreAllParts, IsOutcomeOf, IsQueryOutcome, IsWhole, why_none};
+ghost use Rattle.script_running.specs.declared.came.Came.TheVariants as parts;
+ghost use Rattle.script_running.specs.declared.outcome.QueryPart.{QueryPart};
 
-use crate::{NoAnswer, Outcome, Part, QueryOutcome, QueryPart};
+use crate::{Came, NoAnswer, Outcome, Part, QueryOutcome, QueryPart};
 use base::{NoMemory, TryCopy};
 use querier::{CompareWay, Gather, Names, NamesList};
 use std::alloc::Global;
@@ -28,16 +28,27 @@ pub fn outcome_of<W: CompareWay>(
     let mut given = Given::new(alloc);
     let mut gateway = 0;
     for part in parts {
-        match part {
-            Part::Upload(end) => return Ok(Outcome::Upload(end)),
-            Part::Sync(end) => return Ok(Outcome::Sync(end)),
-            Part::Compact(end) => return Ok(Outcome::Compact(end)),
-            Part::Clean(end) => return Ok(Outcome::Clean(end)),
-            Part::Query(own) => given.add(gateway, own)?,
+        match query_part(part) {
+            Ok(own) => given.add(gateway, own)?,
+            Err(whole) => return Ok(whole),
         }
         gateway += 1;
     }
-    Ok(Outcome::Query(given.finish(way)?))
+    Ok(Came::Query(given.finish(way)?))
+}
+
+/// A gateway's part of a query; or what another task came to, of which the part is the whole.
+fn query_part(part: Part) -> Result<QueryPart, Outcome>
+    ensures { MatchResult result (λ own. part ≡ parts.Query own) (IsWhole part) }
+{
+    match part {
+        Came::Upload(end) => Err(Came::Upload(end)),
+        Came::Unshipped(cause) => Err(Came::Unshipped(cause)),
+        Came::Sync(end) => Err(Came::Sync(end)),
+        Came::Compact(end) => Err(Came::Compact(end)),
+        Came::Clean(end) => Err(Came::Clean(end)),
+        Came::Query(own) => Ok(own),
+    }
 }
 
 /// What the first gateways gave to a query.
@@ -61,19 +72,23 @@ impl Given {
     }
 
     /// Adds what the next gateway gave.
-    #[tactic(auto, using(crate::proofs::GivenParts::unasked_more, crate::proofs::GivenParts::answer_more))]
+    #[tactic(auto, using(crate::proofs::GivenParts::unasked_more))]
     fn add(&mut self, gateway: u32, part: QueryPart) -> Result<(), NoMemory>
         ensures { (parts : List QueryPart) → length parts ≡ gateway → HasGiven parts self.old
             → OnOk result (HasGiven (parts ++ part ∷ []) self.new) }
     {
         match part {
             QueryPart::NotAsked => Ok(()),
-            QueryPart::Answer(answer) => {
+            QueryPart::NoView => {
+                self.note_none(gateway, NoAnswer::NoView);
+                Ok(())
+            }
+            QueryPart::Answer(answer, _) => {
                 let sources = answer.sources.copy()?;
                 self.names.push(Names { gateway, sources })?;
                 self.answers.take(answer)
             }
-            QueryPart::NoAnswer(why) => {
+            QueryPart::NoAnswer(why, _) => {
                 self.note_none(gateway, why);
                 Ok(())
             }
@@ -81,10 +96,10 @@ impl Given {
     }
 
     /// A gateway gave no answer: it is noted, if it is the first.
-    #[tactic(auto, using(crate::proofs::GivenParts::none_noted))]
     fn note_none(&mut self, gateway: u32, why: NoAnswer)
-        ensures { (parts : List QueryPart) → length parts ≡ gateway → HasGiven parts self.old
-            → HasGiven (parts ++ gives.NoAnswer why ∷ []) self.new }
+        ensures { (parts : List QueryPart) (part : QueryPart) → why_none part ≡ Some why
+            → length parts ≡ gateway → HasGiven parts self.old
+            → HasGiven (parts ++ part ∷ []) self.new }
     {
         if self.none.is_none() {
             self.none = Some((gateway, why));

@@ -1,6 +1,6 @@
 ghost use Rattle.std.specs.Prelude.{◌++◌, ◌∷◌, [], List, OnOk};
 ghost use Rattle.script_workers.specs.declared.task.Task.{Task};
-ghost use Rattle.script_running.specs.declared.outcome.Outcome.{Outcome};
+ghost use Rattle.script_running.specs.Outcomes.{Outcome};
 
 use crate::Outcome;
 use base::NoMemory;
@@ -11,7 +11,7 @@ pub trait Report {
     ghost use Rattle.std.specs.Prelude.{List};
     ghost use Rattle.script_core.specs.declared.script.Script.{Script};
     ghost use Rattle.script_workers.specs.declared.task.Task.{Task};
-    ghost use Rattle.script_running.specs.declared.outcome.Outcome.{Outcome};
+    ghost use Rattle.script_running.specs.Outcomes.{Outcome};
 
     /// It tells how these tasks of the script came out, and of no others.
     ghost tells: { Self → Script → List Task → List Outcome → Type 0 };

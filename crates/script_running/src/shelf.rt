@@ -142,6 +142,7 @@ pub fn cause_number(refusal: &CheckRefusal) -> Option<u8>
         CheckRefusal::BadChunk { .. } => Some(10),
         CheckRefusal::OutsideRange { .. } => Some(11),
         CheckRefusal::Repeated(_) => Some(12),
+        CheckRefusal::NamesTooMuch => Some(13),
         CheckRefusal::NoMemory => None,
     }
 }

@@ -1,14 +1,14 @@
 //! A worker of a phase: it does its tasks one after another.
 
-ghost use Rattle.std.specs.Prelude.{◌≡◌, ◌<◌, ◌||◌, ◌⊎◌, [], Ok, Err, Some, IfSome, IsTrue, length, slice_get};
+ghost use Rattle.std.specs.Prelude.{◌≡◌, ◌<◌, [], Err, length};
 ghost use Rattle.std.specs.List.{All};
-ghost use Rattle.world_core.specs.Keeping.{IsFull};
+ghost use Rattle.world_core.specs.Turning.{Turned};
 ghost use Rattle.script_core.specs.Lawful.{IsLawfulScript};
 ghost use Rattle.lifecycle_core.specs.Conducts.{Who};
 ghost use Rattle.lifecycle_core.specs.Holdings.{Holding};
 ghost use Rattle.script_running.specs.Lending.{setting_in};
 ghost use Rattle.script_running.specs.Sights.{Sees};
-ghost use Rattle.script_running.specs.Tasks.{Allows, is_full_came};
+ghost use Rattle.script_running.specs.Tasks.{Allows, is_full_came, is_short_came};
 ghost use Rattle.script_running.specs.Workers.{IsAtWork, HasWorked};
 
 use crate::{Broken, Means, Part, Sight, run_task};
@@ -21,7 +21,6 @@ use world_core::Hand;
 /// A worker of a phase and what its gateway sees.
 #[derive(Drop)]
 pub struct WorkerJob<'a> {
-    alloc: Global,
     means: &'a Means<'a>,
     tasks: &'a [Task],
     phase: usize,
@@ -58,7 +57,6 @@ pub struct WorkerEnd {
 impl<'a> WorkerJob<'a> {
     /// The job of a worker of the phase at a place.
     pub fn new(
-        alloc: Global,
         means: &'a Means<'a>,
         place: usize,
         phase: &'a Phase,
@@ -70,7 +68,6 @@ impl<'a> WorkerJob<'a> {
             × (result.sight ≡ sight) }
     {
         WorkerJob {
-            alloc,
             means,
             tasks: phase.tasks.members(),
             phase: place,
@@ -81,8 +78,8 @@ impl<'a> WorkerJob<'a> {
 }
 
 impl<'a> Job for WorkerJob<'a> {
-    ghost use Rattle.script_running.specs.Workers.{MayWork, is_short_end};
-    ghost use Rattle.script_running.specs.Tasks.{is_full_came};
+    ghost use Rattle.script_running.specs.Workers.{MayWork};
+    ghost use Rattle.script_running.specs.Tasks.{is_full_came, is_short_came};
 
     type End = WorkerEnd;
 
@@ -90,7 +87,7 @@ impl<'a> Job for WorkerJob<'a> {
 
     ghost met_full = { λ end. is_full_came end.came };
 
-    ghost wanted = { λ end. is_short_end end.came };
+    ghost wanted = { λ end. is_short_came end.came };
 
     /// Uploads of inline blocks are as heavy as their samples. All else is heavy.
     fn weight(&self) -> u64 {
@@ -107,7 +104,6 @@ impl<'a> Job for WorkerJob<'a> {
 
     fn run<H: Hand>(self, hand: &mut H) -> WorkerEnd {
         let WorkerJob {
-            alloc,
             means,
             tasks,
             phase: _,
@@ -115,7 +111,7 @@ impl<'a> Job for WorkerJob<'a> {
             sight,
         } = self;
         let places = worker.tasks.members();
-        do_tasks(alloc, means, worker.gateway, tasks, places, sight, hand)
+        do_tasks(means, worker.gateway, tasks, places, sight, hand)
     }
 }
 
@@ -134,7 +130,6 @@ fn wanting(alloc: Global, sight: Sight) -> WorkerEnd
 /// Does a worker's parts of the tasks at these places one after another, until one of them is broken off. It takes its memory
 /// for what they come to first.
 fn do_tasks<H: Hand>(
-    alloc: Global,
     means: &Means<'_>,
     gateway: Option<u32>,
     tasks: &[Task],
@@ -147,23 +142,17 @@ fn do_tasks<H: Hand>(
     requires places { All (λ place. place < length tasks.now) places.now }
     ensures worked { (who : Who) (held : Holding) → who.gateway ≡ gateway → Sees held sight
         → HasWorked (setting_in means.now) tasks.now who places.now held
-        (H.seat hand.old) (H.entries hand.old) (H.entries hand.new) result }
-    ensures seat { H.seat hand.new ≡ H.seat hand.old }
-    ensures keeps { H.keeps hand.old hand.new }
-
-    // The worker is broken off as full exactly where an operation was answered so, and then the journal is full.
-    ensures refused { H.refused hand.new ≡ (H.refused hand.old || is_full_came result.came) }
-    ensures full { result.came ≡ Err Broken.Full → IfSome (H.front hand.new) IsFull }
-    ensures wanted { IsTrue (H.wanted hand.new)
-        → IsTrue (H.wanted hand.old) ⊎ (result.came ≡ Err Broken.NoMemory) }
+        (H.told hand.old).seat (H.told hand.old).entries (H.told hand.new).entries result }
+    ensures hand { Turned H.told H.keeps hand.old hand.new (is_full_came result.came)
+        (is_short_came result.came) }
 {
     let mut sight = sight;
-    let Ok(mut parts) = Vec::with_capacity(alloc, places.len()) else {
-        return wanting(alloc, sight);
+    let Ok(mut parts) = Vec::with_capacity(means.alloc(), places.len()) else {
+        return wanting(means.alloc(), sight);
     };
     for number in 0..places.len() {
         let task = &tasks[places[number] as usize];
-        match run_task(alloc, means, gateway, &task.work, &mut sight, hand) {
+        match run_task(means, gateway, &task.work, &mut sight, hand) {
             Ok(part) => parts.push_reserved(part),
             Err(broken) => {
                 return WorkerEnd {

@@ -17,7 +17,7 @@ use Rattle.script_workers.specs.declared.task.Task.{Task}
 use Rattle.script_workers.specs.declared.work.Work.{Work}
 use Rattle.script_workers.specs.declared.work.Work.TheVariants as works
 use Rattle.script_workers.specs.Hands.{same_hand, hands_of_task, with_hand, with_hands, hands_from, hands_of, does}
-use Rattle.script_workers.specs.Whose.{IsFor, ships, compacts, cleans, syncs, asks, IsTaskOf, AreEnough, FewWorkers}
+use Rattle.script_workers.specs.Whose.{IsFor, does_alone, syncs, asks, IsTaskOf, AreEnough, FewWorkers}
 use Rattle.script_workers.proofs.HandLists.{none_alone_among, gateway_among}
 use Rattle.script_workers.specs.Limits.{most_workers}
 
@@ -61,23 +61,25 @@ one_hand one hand h =
 
 pub does_for : (gateways : ℕ) (hand : Hand) (place : ℕ) (work : Work) → does gateways hand place work ≡ true → IsFor gateways hand place work
 unfolding hands_of_task
-does_for gateways hand place (works.Upload ulid stop) h = ships ulid stop refl (one_hand (Alone place) hand h)
+does_for gateways hand place (works.Upload ulid stop) h = does_alone refl (λ g is. cc (is)) (one_hand (Alone place) hand h)
 does_for gateways hand place (works.Sync gateway) h = syncs gateway refl (one_hand (Gateway gateway) hand h)
-does_for gateways hand place (works.Compact stop) h = compacts stop refl (one_hand (Alone place) hand h)
-does_for gateways hand place (works.Clean stop) h = cleans stop refl (one_hand (Alone place) hand h)
+does_for gateways hand place (works.Compact stop) h = does_alone refl (λ g is. cc (is)) (one_hand (Alone place) hand h)
+does_for gateways hand place (works.Clean stop) h = does_alone refl (λ g is. cc (is)) (one_hand (Alone place) hand h)
 does_for gateways (Alone own) place (works.Query low high selector) h =
     let clash : false ≡ true = sym (none_alone_among own (range_with_len 0 gateways)) ∙ h in absurd cc
 does_for gateways (Gateway gateway) place (works.Query low high selector) h =
     let below : nat_lt gateway gateways ≡ true = sym (gateway_among gateway gateways) ∙ h in
-    asks low high selector gateway refl refl (grind (arith, nat_tests))
+    asks gateway refl refl (grind (arith, nat_tests))
 
 pub for_does : (gateways : ℕ) (hand : Hand) (place : ℕ) (work : Work) → IsFor gateways hand place work → does gateways hand place work ≡ true
 unfolding hands_of_task
-for_does gateways hand place work (ships ulid stop is who) = rw (is, who, itself) refl
-for_does gateways hand place work (compacts stop is who) = rw (is, who, itself) refl
-for_does gateways hand place work (cleans stop is who) = rw (is, who, itself) refl
+for_does gateways hand place (works.Upload ulid stop) (does_alone none apart who) = rw (who, itself) refl
+for_does gateways hand place (works.Compact stop) (does_alone none apart who) = rw (who, itself) refl
+for_does gateways hand place (works.Clean stop) (does_alone none apart who) = rw (who, itself) refl
+for_does gateways hand place (works.Sync gateway) (does_alone none apart who) = absurd (apart gateway refl)
+for_does gateways hand place (works.Query low high selector) (does_alone none apart who) = absurd (cc (none))
 for_does gateways hand place work (syncs gateway is who) = rw (is, who, itself) refl
-for_does gateways hand place work (asks low high selector gateway is who below) =
+for_does gateways hand place work (asks gateway is who below) =
     let inside : nat_lt gateway gateways ≡ true = grind (arith, nat_tests) in
     rw (is, who) (gateway_among gateway gateways ∙ inside)
 

@@ -1,5 +1,5 @@
 -- The hands, places, workers and seats of a list, from one place on.
-use Rattle.std.proofs.Common.{◌≡◌, ℕ, zero, suc, ◌+◌, ◌-◌, ◌<◌, ◌≤◌, Bool, true, false, ◌&&◌, cond, nat_lt, nat_le, List, [], ◌∷◌, ◌++◌, length, get_or, drop, map, refl, ap, sym, ◌∙◌, arith, append_assoc, min}
+use Rattle.std.proofs.Common.{◌≡◌, ℕ, zero, suc, ◌+◌, ◌-◌, ◌<◌, ◌≤◌, Bool, true, false, ◌&&◌, cond, nat_lt, nat_le, List, [], ◌∷◌, ◌++◌, length, get_or, take, take_all, drop, map, refl, ap, sym, ◌∙◌, arith, append_assoc, min}
 use Rattle.std.specs.List.{list_any, range_with_len}
 use Rattle.std.proofs.lemmas.List.{drop_more, drop_all, append-nil}
 use Rattle.std.proofs.lemmas.Bool.Decides.{nat_tests}
@@ -104,3 +104,16 @@ module _ (gateways before place count cut after whole : ℕ) (phases : List Phas
       let length_is : count ≡ length (hands_of gateways phase.tasks) = count_is ∙ ap length (hands_are ∙ ap (hands_of gateways) tasks_are) in
       let seats_are : after ≡ seats_after before (length (hands_of gateways phase.tasks)) = after_is ∙ ap (λ n. min (before + n) greatest) cut_is ∙ seats_cut before count ∙ ap (seats_after before) length_is in
       rw seats_are (sym (seats_from-next gateways before phases place phase inside is) ∙ so_far)
+
+-- ---- lists that grow at their end
+
+-- a list begins with all that it had before
+pub record KeepsFront (before after : List Hand) : Type 0 where
+  pub front : take (length before) after ≡ before
+  pub longer : length before ≤ length after
+
+pub keeps_itself : (hands : List Hand) → KeepsFront hands hands
+keeps_itself hands = record { front = take_all (length hands) hands (omega arith); longer = omega arith }
+
+pub keeps_more : (before now after : List Hand) → KeepsFront before now → ((n : ℕ) → n ≤ length now → take n after ≡ take n now) → length now ≤ length after → KeepsFront before after
+keeps_more before now after keeps same longer = record { front = same (length before) keeps.longer ∙ keeps.front; longer = omega (arith, keeps.longer, longer) }

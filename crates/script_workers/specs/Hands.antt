@@ -8,6 +8,7 @@ use Rattle.script_workers.specs.declared.work.Work.TheVariants as works
 use Rattle.script_workers.specs.declared.task.Task.{Task}
 use Rattle.script_workers.specs.declared.phase.Phase.{Phase}
 use Rattle.script_workers.specs.declared.worker.Worker.{Worker}
+use Rattle.script_workers.specs.Works.{asks_all}
 
 -- the greatest number of 32 bits
 abbrev pub greatest : ℕ
@@ -23,14 +24,16 @@ same_hand (hands.Alone one) (hands.Gateway other) = false
 same_hand (hands.Gateway one) (hands.Alone other) = false
 same_hand (hands.Gateway one) (hands.Gateway other) = one == other
 
--- Who does the task at a place: an upload, a compaction and a cleaning have a worker of their own each, a sync is its
--- gateway's, a query is every gateway's.
+-- Who does the task at a place that does not ask all gateways: a sync is its gateway's, and each other task has a worker of
+-- its own.
+abbrev pub own_hand : ℕ → Work → Hand
+own_hand place (works.Sync gateway) = hands.Gateway gateway
+own_hand place work = hands.Alone place
+
+-- Who does the task at a place. What asks all gateways is every gateway's.
 unfoldable pub hands_of_task : ℕ → ℕ → Work → List Hand
-hands_of_task gateways place (works.Upload ulid stop) = hands.Alone place ∷ []
-hands_of_task gateways place (works.Sync gateway) = hands.Gateway gateway ∷ []
-hands_of_task gateways place (works.Compact stop) = hands.Alone place ∷ []
-hands_of_task gateways place (works.Clean stop) = hands.Alone place ∷ []
-hands_of_task gateways place (works.Query low high selector) = map hands.Gateway (range_with_len 0 gateways)
+hands_of_task gateways place work =
+    if asks_all work then map hands.Gateway (range_with_len 0 gateways) else own_hand place work ∷ []
 
 -- a hand joins those before it, once
 abbrev pub with_hand : List Hand → Hand → List Hand

@@ -1,5 +1,5 @@
 pub mod Limits
+pub mod Works
 pub mod Hands
 pub mod Whose
-pub mod Works
 pub mod Staff

@@ -1,20 +1,19 @@
 -- Who works on a task, apart from how that is found.
-use Rattle.std.specs.Prelude.{◌≡◌, ℕ, ℤ, ◌<◌, ◌≤◌, List, length, Contains, Option, Some, slice_get}
+use Rattle.std.specs.Prelude.{◌≡◌, ◌≢◌, ℕ, ◌<◌, ◌≤◌, IsFalse, IsTrue, List, length, Contains, Option, Some, slice_get}
 use Rattle.script_workers.specs.Limits.{most_workers}
+use Rattle.script_workers.specs.Works.{asks_all}
 use Rattle.script_workers.specs.declared.hand.Hand.{Hand}
 use Rattle.script_workers.specs.declared.hand.Hand.TheVariants.{Alone, Gateway}
 use Rattle.script_workers.specs.declared.task.Task.{Task}
 use Rattle.script_workers.specs.declared.work.Work.{Work}
 use Rattle.script_workers.specs.declared.work.Work.TheVariants as works
 
--- Whose a task at a place is, where there are so many gateways: an upload, a compaction and a cleaning have a worker of
--- their own each, a sync is its gateway's, and a query is every gateway's.
+-- Whose a task at a place is, where there are so many gateways: what asks all gateways is every gateway's, a sync is its gateway's, and
+-- any other task has a worker of its own.
 pub data IsFor (gateways : ℕ) (hand : Hand) (place : ℕ) (work : Work) : Type 0 where
-  ships : (ulid : ℕ) (stop : Option ℕ) → work ≡ works.Upload ulid stop → hand ≡ Alone place → IsFor gateways hand place work
-  compacts : (stop : Option ℕ) → work ≡ works.Compact stop → hand ≡ Alone place → IsFor gateways hand place work
-  cleans : (stop : Option ℕ) → work ≡ works.Clean stop → hand ≡ Alone place → IsFor gateways hand place work
+  does_alone : IsFalse (asks_all work) → ((gateway : ℕ) → work ≢ works.Sync gateway) → hand ≡ Alone place → IsFor gateways hand place work
   syncs : (gateway : ℕ) → work ≡ works.Sync gateway → hand ≡ Gateway gateway → IsFor gateways hand place work
-  asks : (low high : ℤ) (selector gateway : ℕ) → work ≡ works.Query low high selector → hand ≡ Gateway gateway → gateway < gateways → IsFor gateways hand place work
+  asks : (gateway : ℕ) → IsTrue (asks_all work) → hand ≡ Gateway gateway → gateway < gateways → IsFor gateways hand place work
 
 -- The task at a place is one that a hand does.
 pub record IsTaskOf (gateways : ℕ) (tasks : List Task) (hand : Hand) (place : ℕ) : Type 0 where

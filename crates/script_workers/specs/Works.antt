@@ -1,8 +1,9 @@
 -- The tasks of phases, one after another.
-use Rattle.std.specs.Prelude.{ℕ, List, map, Bool, true, false, ◌==◌, IsTrue, IsFalse}
+use Rattle.std.specs.Prelude.{ℕ, List, map, Bool, true, false, ◌==◌, IsTrue, IsFalse, Option, Some, None, is_some}
 use Rattle.std.specs.List.{list_any, flat_map, AllPairs}
 use Rattle.script_workers.specs.declared.phase.Phase.{Phase}
 use Rattle.script_workers.specs.declared.task.Task.{Task}
+use Rattle.script_workers.specs.declared.work.Asking.{Asking}
 use Rattle.script_workers.specs.declared.work.Work.{Work}
 use Rattle.script_workers.specs.declared.work.Work.TheVariants.{Upload, Sync, Compact, Clean, Query}
 
@@ -13,6 +14,17 @@ works_in tasks = map (λ task. task.work) tasks
 -- what the tasks of all phases ask for, in the order of their lines
 abbrev pub works_of : List Phase → List Work
 works_of phases = flat_map (λ phase. works_in phase.tasks) phases
+
+-- What a task asks all gateways: a query asks them, and nothing else does.
+abbrev pub asking_of : Work → Option Asking
+asking_of (Upload ulid stop) = None
+asking_of (Sync gateway) = None
+asking_of (Compact stop) = None
+asking_of (Clean stop) = None
+asking_of (Query low high selector) = Some (record { low = low; high = high; selector = selector })
+
+abbrev pub asks_all : Work → Bool
+asks_all work = is_some (asking_of work)
 
 -- whether this is a sync of the gateway at a place
 abbrev pub is_sync_of : ℕ → Work → Bool

@@ -1,13 +1,13 @@
 //! Which workers the tasks of a phase need.
 
-ghost use Rattle.std.specs.Prelude.{◌≡◌, OnOk, IfOk, map, min};
+ghost use Rattle.std.specs.Prelude.{◌≡◌, ◌≤◌, ℕ, OnOk, OnErr, IfOk, length, map, min, take};
 ghost use Rattle.std.specs.List.{list_any, fold, range_with_len};
 ghost use Rattle.script_workers.specs.declared.hand.Hand.TheVariants as hand_kinds;
-ghost use Rattle.script_workers.specs.Hands.{greatest, gateway_count, same_hand, with_hand, with_hands, hands_of, does, places_from};
+ghost use Rattle.script_workers.specs.Hands.{greatest, gateway_count, own_hand, same_hand, with_hand, with_hands, hands_of, does, places_from};
 
 use crate::hand::Hand;
 use crate::{Task, Work};
-use base::NoMemory;
+use base::{NoMemory, cut_on_err};
 use label_sets::TextList;
 use std::alloc::Global;
 use wire_bytes::NumberList;
@@ -27,25 +27,48 @@ pub(crate) fn small_count(count: usize) -> u32
 }
 
 /// Adds the hands that a task needs and that are not there yet, at the end.
-#[tactic(auto, unfolding(crate::specs::Hands::with_hands, crate::specs::Hands::hands_of_task))]
 pub fn add_hands(
     hands: &mut Vec<Hand>,
     gateways: u32,
     place: u64,
     work: &Work,
 ) -> Result<(), NoMemory>
-    ensures { OnOk result (hands.new.items ≡ with_hands gateways hands.old.items place work.now) }
+    ensures put { OnOk result
+        (hands.new.items ≡ with_hands gateways hands.old.items place work.now) }
+    ensures kept { OnErr result (hands.new.items ≡ hands.old.items) }
+{
+    let before = hands.len();
+    let put = put_hands(hands, gateways, place, work);
+    cut_on_err(hands, before, put)
+}
+
+#[tactic(auto, unfolding(crate::specs::Hands::with_hands, crate::specs::Hands::hands_of_task))]
+fn put_hands(hands: &mut Vec<Hand>, gateways: u32, place: u64, work: &Work) -> Result<(), NoMemory>
+    ensures put { OnOk result
+        (hands.new.items ≡ with_hands gateways hands.old.items place work.now) }
+    ensures front { take (length hands.old.items) hands.new.items ≡ hands.old.items }
+{
+    if work.asking().is_some() {
+        add_gateways(hands, gateways)
+    } else {
+        add_hand(hands, own_hand(place, work))
+    }
+}
+
+/// Who does the task at a place, where it does not ask all gateways.
+fn own_hand(place: u64, work: &Work) -> Hand
+    ensures { result ≡ own_hand place work.now }
 {
     match work {
-        Work::Upload(..) | Work::Compact(_) | Work::Clean(_) => add_hand(hands, Hand::Alone(place)),
-        Work::Sync(gateway) => add_hand(hands, Hand::Gateway(*gateway)),
-        Work::Query { .. } => add_gateways(hands, gateways),
+        Work::Sync(gateway) => Hand::Gateway(*gateway),
+        _ => Hand::Alone(place),
     }
 }
 
 fn add_gateways(hands: &mut Vec<Hand>, gateways: u32) -> Result<(), NoMemory>
-    ensures { OnOk result (hands.new.items
+    ensures put { OnOk result (hands.new.items
         ≡ fold with_hand hands.old.items (map hand_kinds.Gateway (range_with_len 0 gateways))) }
+    ensures front { take (length hands.old.items) hands.new.items ≡ hands.old.items }
 {
     for gateway in 0..gateways {
         add_hand(hands, Hand::Gateway(gateway))?;
@@ -54,7 +77,10 @@ fn add_gateways(hands: &mut Vec<Hand>, gateways: u32) -> Result<(), NoMemory>
 }
 
 fn add_hand(hands: &mut Vec<Hand>, hand: Hand) -> Result<(), NoMemory>
-    ensures { OnOk result (hands.new.items ≡ with_hand hands.old.items hand) }
+    ensures put { OnOk result (hands.new.items ≡ with_hand hands.old.items hand) }
+    ensures front { (n : ℕ) → n ≤ length hands.old.items
+        → take n hands.new.items ≡ take n hands.old.items }
+    ensures longer { length hands.old.items ≤ length hands.new.items }
 {
     if !has_hand(hands.as_slice(), hand) {
         hands.push(hand)?;
@@ -73,10 +99,10 @@ fn has_hand(hands: &[Hand], hand: Hand) -> bool
 pub(crate) fn does(gateways: u32, hand: Hand, place: u64, work: &Work) -> bool
     ensures { result ≡ does gateways hand place work.now }
 {
-    match work {
-        Work::Upload(..) | Work::Compact(_) | Work::Clean(_) => hand.is(Hand::Alone(place)),
-        Work::Sync(gateway) => hand.is(Hand::Gateway(*gateway)),
-        Work::Query { .. } => hand.is_among(gateways),
+    if work.asking().is_some() {
+        hand.is_among(gateways)
+    } else {
+        hand.is(own_hand(place, work))
     }
 }
 

@@ -13,6 +13,6 @@ pub use hand::Hand;
 pub use hands::{add_hands, gateway_count};
 pub use phase::{Phase, PhaseList};
 pub use task::{Task, TaskList};
-pub use work::Work;
+pub use work::{Asking, Work};
 pub use worker::{Worker, WorkerList};
 pub use workers::{phase_workers, seats_of};

@@ -2,7 +2,7 @@ use crate::Work;
 use base::{List, NoMemory, TryCopy};
 
 /// A line of a phase, with its number in the script.
-#[derive(Clone, Copy, Debug, PartialEq, Eq)]
+#[derive(Debug, PartialEq, Eq, Drop)]
 pub struct Task {
     pub line: u32,
     pub work: Work,
@@ -13,6 +13,9 @@ pub type TaskList = List<Task>;
 
 impl TryCopy for Task {
     fn copy(&self) -> Result<Self, NoMemory> {
-        Ok(*self)
+        Ok(Task {
+            line: self.line,
+            work: self.work.copy()?,
+        })
     }
 }

@@ -1,8 +1,10 @@
+//! What a line of a phase asks a worker to do, in the words of a script.
+
 use base::{NoMemory, TryCopy};
 use ulid_core::Ulid;
 
 /// What one line of a phase asks for.
-#[derive(Clone, Copy, Debug, PartialEq, Eq)]
+#[derive(Debug, PartialEq, Eq, Drop)]
 pub enum Work {
     /// Ships a declared block, and may stop after so many operations.
     Upload(Ulid, Option<u32>),
@@ -16,9 +18,35 @@ pub enum Work {
     Query { low: i64, high: i64, selector: u32 },
 }
 
+/// What a task asks all gateways: for the times from `low` to `high`, both included, what the selector at this place matches.
+#[derive(Clone, Copy, Debug, PartialEq, Eq)]
+pub struct Asking {
+    pub low: i64,
+    pub high: i64,
+    pub selector: u32,
+}
+
 impl Work {
     ghost use Rattle.std.specs.Prelude.{◌≡◌};
-    ghost use Rattle.script_workers.specs.Works.{is_compaction};
+    ghost use Rattle.script_workers.specs.Works.{asking_of, is_compaction};
+
+    /// What it asks all gateways, if it asks them.
+    pub fn asking(&self) -> Option<Asking>
+        ensures { result ≡ asking_of self.now }
+    {
+        match self {
+            Work::Query {
+                low,
+                high,
+                selector,
+            } => Some(Asking {
+                low: *low,
+                high: *high,
+                selector: *selector,
+            }),
+            Work::Upload(..) | Work::Sync(_) | Work::Compact(_) | Work::Clean(_) => None,
+        }
+    }
 
     /// Whether the task is a compaction, of which a phase has at most one.
     pub fn is_compaction(&self) -> bool
@@ -30,6 +58,20 @@ impl Work {
 
 impl TryCopy for Work {
     fn copy(&self) -> Result<Self, NoMemory> {
-        Ok(*self)
+        Ok(match self {
+            Work::Upload(ulid, stop) => Work::Upload(*ulid, *stop),
+            Work::Sync(gateway) => Work::Sync(*gateway),
+            Work::Compact(stop) => Work::Compact(*stop),
+            Work::Clean(stop) => Work::Clean(*stop),
+            Work::Query {
+                low,
+                high,
+                selector,
+            } => Work::Query {
+                low: *low,
+                high: *high,
+                selector: *selector,
+            },
+        })
     }
 }

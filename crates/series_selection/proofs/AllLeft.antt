@@ -1,12 +1,10 @@
 -- What the matchers before a place left of numbers, and what is still to be left.
-use Rattle.std.proofs.Common.{◌≡◌, ℕ, ◌+◌, ◌<◌, ◌≤◌, List, [], ◌∷◌, ◌++◌, length, take, take_all, drop, get_or, Result, Ok, Err, refl, sym, ap, subst, ◌∙◌, inl, inr, add-one, drop-cons}
-use Rattle.std.specs.List.{Contains, flat_map}
+use Rattle.std.proofs.Common.{◌≡◌, ℕ, ◌+◌, ◌<◌, ◌≤◌, List, [], ◌∷◌, ◌++◌, length, take, take_all, drop, get_or, Result, Ok, Err, refl, sym, ap, ◌∙◌, add-one, drop-cons}
+use Rattle.std.specs.List.{flat_map}
 use Rattle.std.specs.List.Sorted.{IsStrictlyIncreasing}
 use Rattle.std.proofs.lemmas.List.{drop_all, take_more}
 use Rattle.std.proofs.lemmas.List.Concat.{flat_map-append}
 use Rattle.std.proofs.lemmas.List.{append-nil}
-use Rattle.std.proofs.lemmas.List.Elements.{Contains-append_cases}
-use Rattle.base.proofs.Membership.{only_member}
 use Rattle.base.specs.Reading.{◌>>=◌}
 use Rattle.label_sets.specs.declared.label.Label.{Label}
 use Rattle.label_sets.specs.Labels.{value_of}
@@ -15,14 +13,13 @@ use Rattle.index_parts.specs.declared.postings_row.PostingsRow.{PostingsRow}
 use Rattle.index_v2.specs.declared.refusal.IndexRefusal.{IndexRefusal}
 use Rattle.index_v2.specs.Held.{Held}
 use Rattle.series_selection.specs.Selections.{deciding}
-use Rattle.series_selection.specs.SelectionSteps.{left_by, left_at, ListsStand, IsWithinBudget}
+use Rattle.series_selection.specs.SelectionSteps.{left_by, left_at, ListsStand}
 use Rattle.series_selection.proofs.Walk.{stand_same, stand_append}
 
 pub record LeftSoFar (held : Held) (external : List Label) (matchers : List Matcher) (numbers : List ℕ) (place : ℕ) (left : List ℕ) : Type 0 where
   pub whole : left_at held external matchers numbers ≡ left_at held external (drop place matchers) left
   pub rise : IsStrictlyIncreasing left
   pub stand : ListsStand held (flat_map (deciding external held.rows) (take place matchers))
-  pub paid : (m : Matcher) → Contains (take place matchers) m → IsWithinBudget held.lists (deciding external held.rows m)
 
 left_first : (held : Held) (external : List Label) (m : Matcher) (matchers : List Matcher) (numbers : List ℕ) → left_at held external (m ∷ matchers) numbers ≡ (left_by (value_of external m.name) held.lists held.rows m numbers >>= left_at held external matchers)
 unfolding left_at
@@ -39,17 +36,13 @@ module _ (held : Held) (external : List Label) (matchers : List Matcher) (number
   next_is : left_at held external matchers numbers ≡ (left_by (value_of external m.name) held.lists held.rows m left >>= left_at held external (drop (place + 1) matchers))
   next_is = far.whole ∙ ap (λ (ms : List Matcher). left_at held external ms left) (drop_here matchers place m lt here) ∙ left_first held external m (drop (place + 1) matchers) left
 
-  pub left_more : (new : List ℕ) → left_by (value_of external m.name) held.lists held.rows m left ≡ Ok new → IsStrictlyIncreasing new → ListsStand held (deciding external held.rows m) → IsWithinBudget held.lists (deciding external held.rows m) → LeftSoFar held external matchers numbers (place + 1) new
-  left_more new read rise stand within = record {
+  pub left_more : (new : List ℕ) → left_by (value_of external m.name) held.lists held.rows m left ≡ Ok new → IsStrictlyIncreasing new → ListsStand held (deciding external held.rows m) → LeftSoFar held external matchers numbers (place + 1) new
+  left_more new read rise stand = record {
     whole = next_is ∙ ap (λ (r : Result (List ℕ) IndexRefusal). r >>= left_at held external (drop (place + 1) matchers)) read;
     rise = rise;
     stand = stand_same held (flat_map (deciding external held.rows) (take place matchers) ++ deciding external held.rows m) (flat_map (deciding external held.rows) (take (place + 1) matchers))
         (sym (ap (flat_map (deciding external held.rows)) (take_more matchers place m lt ∙ ap (λ (x : Matcher). take place matchers ++ x ∷ []) (sym here)) ∙ flat_map-append (deciding external held.rows) (take place matchers) (m ∷ []) ∙ ap (λ (rows : List PostingsRow). flat_map (deciding external held.rows) (take place matchers) ++ rows) (append-nil (deciding external held.rows m))))
         (stand_append held (flat_map (deciding external held.rows) (take place matchers)) (deciding external held.rows m) far.stand stand);
-    paid = λ one among. elim (Contains-append_cases (take place matchers) (m ∷ []) one (subst (λ (ms : List Matcher). Contains ms one) (take_more matchers place m lt ∙ ap (λ (x : Matcher). take place matchers ++ x ∷ []) (sym here)) among)) [
-      | inl old ↦ far.paid one old
-      | inr new ↦ subst (λ (x : Matcher). IsWithinBudget held.lists (deciding external held.rows x)) (only_member m one new) within
-    ];
   }
 
   pub left_refused : (e : IndexRefusal) → left_by (value_of external m.name) held.lists held.rows m left ≡ Err e → left_at held external matchers numbers ≡ Err e
@@ -60,6 +53,3 @@ left_end held external matchers numbers place left far le = far.whole ∙ ap (λ
 
 pub left_stand : (held : Held) (external : List Label) (matchers : List Matcher) (numbers : List ℕ) (place : ℕ) (left : List ℕ) → LeftSoFar held external matchers numbers place left → length matchers ≤ place → ListsStand held (flat_map (deciding external held.rows) matchers)
 left_stand held external matchers numbers place left far le = stand_same held _ _ (ap (flat_map (deciding external held.rows)) (take_all place matchers le)) far.stand
-
-pub left_paid : (held : Held) (external : List Label) (matchers : List Matcher) (numbers : List ℕ) (place : ℕ) (left : List ℕ) → LeftSoFar held external matchers numbers place left → length matchers ≤ place → (m : Matcher) → Contains matchers m → IsWithinBudget held.lists (deciding external held.rows m)
-left_paid held external matchers numbers place left far le m among = far.paid m (subst (λ (ms : List Matcher). Contains ms m) (sym (take_all place matchers le)) among)

@@ -1,12 +1,10 @@
 -- What a selection comes to, from what its parts say.
 use Rattle.std.proofs.Common.{◌≡◌, ℕ, Bool, true, false, not, List, [], ◌∷◌, Some, Result, Ok, Err, refl, sym, ap, subst, ◌∙◌, ◌⊎◌, inl, inr}
-use Rattle.std.specs.Prelude.{IfOk, IfErr, OnOk, IsOk, MatchResult, is_some, take, ◌==◌, if◌then◌else◌}
+use Rattle.std.specs.Prelude.{IfOk, IfErr, OnOk, IsOk, MatchResult, is_some, take, if◌then◌else◌}
 use Rattle.std.specs.List.{Contains, filter, flat_map}
-use Rattle.std.specs.List.Sorted.{IsPermutation, IsStrictlyIncreasing}
-use Rattle.std.proofs.lemmas.List.Elements.{filter_agree, Contains-append_cases}
-use Rattle.std.proofs.lemmas.List.Sorted.{list_any-IsPermutation}
+use Rattle.std.specs.List.Sorted.{IsStrictlyIncreasing}
+use Rattle.std.proofs.lemmas.List.Elements.{Contains-append_cases}
 use Rattle.base.proofs.Membership.{contains_first, contains_later, no_member, only_member, of_filter, of_flat_map}
-use Rattle.base.specs.Lists.{is_one_of}
 use Rattle.base.specs.Reading.{◌>>=◌, refused_as, Gives}
 use Rattle.label_sets.specs.declared.label.Label.{Label}
 use Rattle.label_sets.specs.Labels.{value_of}
@@ -40,17 +38,15 @@ use Rattle.series_selection.proofs.Matching.{Stands, one_list, selection_matches
 
 -- ---- one matcher
 
-same_among : (wanted : Bool) (listed sorted : List ℕ) (number : ℕ) → IsPermutation listed sorted → (if wanted then is_one_of sorted number else not (is_one_of sorted number)) ≡ (if wanted then is_one_of listed number else not (is_one_of listed number))
-same_among wanted listed sorted number p = ap (λ (b : Bool). if wanted then b else not b) (sym (list_any-IsPermutation (λ n. n == number) listed sorted p))
-
-same_kept : (wanted : Bool) (listed sorted numbers : List ℕ) → IsPermutation listed sorted → kept_numbers wanted sorted numbers ≡ kept_numbers wanted listed numbers
-same_kept wanted listed sorted numbers p = filter_agree (λ n. if wanted then is_one_of sorted n else not (is_one_of sorted n)) (λ n. if wanted then is_one_of listed n else not (is_one_of listed n)) (λ n. same_among wanted listed sorted n p) numbers
-
-pub rows_left : (part : Part) (rows : List PostingsRow) (m : Matcher) (numbers members listed sorted slice left : List ℕ) (wanted : Bool) → numbers_at part (filter (decides m) rows) ≡ Ok listed → IsPermutation listed sorted → slice ≡ sorted → members ≡ numbers → wanted ≡ not (is_accepted m.condition []) → left ≡ kept_numbers wanted slice members → left_by_rows part rows m numbers ≡ Ok left
+pub rows_left : (part : Part) (rows : List PostingsRow) (m : Matcher) (numbers members listed seen left : List ℕ) (wanted : Bool) → numbers_at part (filter (decides m) rows) ≡ Ok listed → seen ≡ listed → members ≡ numbers → wanted ≡ not (is_accepted m.condition []) → left ≡ kept_numbers wanted seen members → left_by_rows part rows m numbers ≡ Ok left
 unfolding left_by_rows
-rows_left part rows m numbers members listed sorted slice left wanted read p s n w e =
-    let made : left ≡ kept_numbers (not (is_accepted m.condition [])) listed numbers = e ∙ (λ i. kept_numbers (w i) (s i) (n i)) ∙ same_kept (not (is_accepted m.condition [])) listed sorted numbers p in
+rows_left part rows m numbers members listed seen left wanted read s n w e =
+    let made : left ≡ kept_numbers (not (is_accepted m.condition [])) listed numbers = e ∙ (λ i. kept_numbers (w i) (s i) (n i)) in
     ap (λ (r : Result (List ℕ) IndexRefusal). r >>= λ xs. Ok (kept_numbers (not (is_accepted m.condition [])) xs numbers)) read ∙ ap Ok (sym made)
+
+pub rows_refused : (part : Part) (rows : List PostingsRow) (m : Matcher) (numbers : List ℕ) (e : IndexRefusal) → numbers_at part (filter (decides m) rows) ≡ Err e → left_by_rows part rows m numbers ≡ Err e
+unfolding left_by_rows
+rows_refused part rows m numbers e refused = rw refused refl
 
 -- ---- all rows that are read
 

@@ -1,6 +1,8 @@
 pub mod KeptNumbers
 pub mod NumbersRead
 pub mod Walk
+pub mod Marks
+pub mod MarkedRows
 pub mod OneRow
 pub mod Fewer
 pub mod Taking

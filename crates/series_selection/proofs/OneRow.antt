@@ -1,13 +1,10 @@
 -- The one row that decides for a matcher with one text.
-use Rattle.std.proofs.Common.{◌≡◌, ℕ, ◌*◌, ◌≤◌, Bool, true, false, not, ◌&&◌, List, [], ◌∷◌, ◌++◌, length, sum_by, Option, Some, None, Result, Ok, Err, refl, sym, ap, subst, ◌∙◌, arith, inl, inr, ◌⊎◌}
-use Rattle.std.specs.Prelude.{slice_get, is_some, if◌then◌else◌, IfOk, IfErr, IfSome, OnOk}
-use Rattle.label_sets.specs.declared.label.Label.{Label}
-use Rattle.label_sets.specs.Labels.{value_of}
+use Rattle.std.proofs.Common.{◌≡◌, ℕ, Bool, true, false, not, ◌&&◌, List, [], ◌∷◌, ◌++◌, Option, Some, None, Result, Ok, Err, refl, sym, ap, subst, ◌∙◌, inl, inr, ◌⊎◌}
+use Rattle.std.specs.Prelude.{slice_get, IfOk, IfErr, IfSome, OnOk}
 use Rattle.std.specs.List.{filter}
 use Rattle.std.specs.List.Sorted.{IsStrictlyIncreasing}
 use Rattle.std.specs.Str.{bytes_eq}
-use Rattle.std.proofs.lemmas.List.{append-nil, length-append}
-use Rattle.std.proofs.lemmas.List.Sums.{sum_by-cons}
+use Rattle.std.proofs.lemmas.List.{append-nil}
 use Rattle.std.proofs.lemmas.List.Elements.{filter_agree}
 use Rattle.base.specs.Reading.{Gives}
 use Rattle.label_sets.proofs.LabelValues.{bytes_eq_differs}
@@ -16,20 +13,15 @@ use Rattle.matchers.specs.declared.condition.Condition.TheVariants.{Equal, NotEq
 use Rattle.matchers.specs.declared.matcher.Matcher.{Matcher}
 use Rattle.matchers.specs.Selectors.{is_accepted}
 use Rattle.index_parts.specs.declared.postings_row.PostingsRow.{PostingsRow}
-use Rattle.index_parts.specs.Parts.{Part}
 use Rattle.index_v2.specs.declared.refusal.IndexRefusal.{IndexRefusal}
 use Rattle.index_v2.specs.declared.refusal.IndexRefusal.TheVariants.{NoMemory}
-use Rattle.index_v2.specs.Budget.{list_bytes}
 use Rattle.index_v2.specs.Held.{Held}
 use Rattle.index_parts.specs.RowOrder.{IsAlone}
 use Rattle.index_v2.specs.PostingsLists.{is_row_of, list_of}
-use Rattle.series_selection.specs.Selections.{decides, deciding}
-use Rattle.series_selection.specs.SelectionSteps.{numbers_at, ListsStand, IsWithinBudget, IsReadOn, IsDecidedBy}
+use Rattle.series_selection.specs.Selections.{decides}
+use Rattle.series_selection.specs.SelectionSteps.{numbers_at, ListsStand, IsReadOn, IsDecidedBy}
 use Rattle.series_selection.proofs.NumbersRead.{numbers_none, numbers_with, numbers_refused}
-use Rattle.series_selection.proofs.Walk.{ok_same, stand_none, stand_same, stand_one, alone_rises}
-
-pub none_within : (part : Part) → IsWithinBudget part []
-none_within part = λ numbers e. let none = ok_same numbers [] (numbers_at part []) e (numbers_none part) in omega (arith, ap length none)
+use Rattle.series_selection.proofs.Walk.{stand_none, stand_same, stand_one, alone_rises}
 
 -- ---- no row
 
@@ -40,51 +32,37 @@ module _ (held : Held) (passes : PostingsRow → Bool) (none : filter passes hel
   pub nothing_stands : ListsStand held (filter passes held.rows)
   nothing_stands = stand_same held [] (filter passes held.rows) (sym none) (stand_none held)
 
-  pub nothing_within : IsWithinBudget held.lists (filter passes held.rows)
-  nothing_within = subst (IsWithinBudget held.lists) (sym none) (none_within held.lists)
-
 -- ---- one row
 
-module _ (held : Held) (passes : PostingsRow → Bool) (place : ℕ) (alone : IsAlone passes held.rows place) (before : List ℕ) (left : ℕ) (none : before ≡ []) where
+module _ (held : Held) (passes : PostingsRow → Bool) (place : ℕ) (alone : IsAlone passes held.rows place) (before : List ℕ) (none : before ≡ []) where
   list_read : (list : List ℕ) → list_of held.lists (slice_get held.rows place) ≡ Ok list → list_of held.lists (Some alone.row) ≡ Ok list
   list_read list read = ap (list_of held.lists) (sym alone.stands) ∙ read
 
-  row_given : (numbers : List ℕ) (rest : ℕ) → IsReadOn held place before left numbers rest → numbers_at held.lists (filter passes held.rows) ≡ Ok numbers
-  row_given numbers rest r =
+  row_given : (numbers : List ℕ) → IsReadOn held place before numbers → numbers_at held.lists (filter passes held.rows) ≡ Ok numbers
+  row_given numbers r =
       ap (numbers_at held.lists) alone.only ∙ numbers_with held.lists alone.row [] r.list [] (list_read r.list r.list_is) (numbers_none held.lists)
       ∙ ap Ok (append-nil r.list ∙ sym (r.numbers_are ∙ ap (λ (xs : List ℕ). xs ++ r.list) none))
 
   row_refused : (e : IndexRefusal) → list_of held.lists (slice_get held.rows place) ≡ Err e → numbers_at held.lists (filter passes held.rows) ≡ Err e
   row_refused e refused = ap (numbers_at held.lists) alone.only ∙ numbers_refused held.lists [] alone.row [] [] e (numbers_none held.lists) (ap (list_of held.lists) (sym alone.stands) ∙ refused)
 
-  row_stands : (numbers : List ℕ) (rest : ℕ) → IsReadOn held place before left numbers rest → ListsStand held (filter passes held.rows)
-  row_stands numbers rest r = stand_same held (alone.row ∷ []) (filter passes held.rows) (sym alone.only)
+  row_stands : (numbers : List ℕ) → IsReadOn held place before numbers → ListsStand held (filter passes held.rows)
+  row_stands numbers r = stand_same held (alone.row ∷ []) (filter passes held.rows) (sym alone.only)
       (stand_one held alone.row r.list (list_read r.list r.list_is) (λ opened is. r.stands opened is alone.row (ap (λ (rows : List PostingsRow). slice_get rows place) (sym is.rows_are) ∙ alone.stands)))
 
-  row_within : (numbers : List ℕ) (rest : ℕ) → left ≤ 8 * length held.lists.bytes → IsReadOn held place before left numbers rest → IsWithinBudget held.lists (filter passes held.rows)
-  row_within numbers rest most r = λ found e.
-      let same = ok_same found numbers (numbers_at held.lists (filter passes held.rows)) e (row_given numbers rest r) in
-      let cost = r.paid alone.row alone.stands in
-      let bytes = ap (sum_by (list_bytes held.lists)) alone.only ∙ sum_by-cons (list_bytes held.lists) alone.row [] in
-      omega (arith, most, cost, bytes, ap length same, ap length r.numbers_are, length-append before r.list, ap length none)
-
-  module _ {X : Type 0} (numbers : X → List ℕ) (rest : X → ℕ) where
-    pub given_by : (result : Result X IndexRefusal) → IfOk result (λ x. IsReadOn held place before left (numbers x) (rest x)) → IfErr result (λ e. (e ≡ NoMemory) ⊎ (list_of held.lists (slice_get held.rows place) ≡ Err e)) → Gives NoMemory numbers result (numbers_at held.lists (filter passes held.rows))
-    given_by (Ok x) read refused = row_given (numbers x) (rest x) read
+  module _ {X : Type 0} (numbers : X → List ℕ) where
+    pub given_by : (result : Result X IndexRefusal) → IfOk result (λ x. IsReadOn held place before (numbers x)) → IfErr result (λ e. (e ≡ NoMemory) ⊎ (list_of held.lists (slice_get held.rows place) ≡ Err e)) → Gives NoMemory numbers result (numbers_at held.lists (filter passes held.rows))
+    given_by (Ok x) read refused = row_given (numbers x) read
     given_by (Err e) read (inl out) = inl out
     given_by (Err e) read (inr refused) = inr (row_refused e refused)
 
-    pub rises_by : (one : X → Bool) (result : Result X IndexRefusal) → IfOk result (λ x. IsReadOn held place before left (numbers x) (rest x)) → IfOk result (λ x. one x ≡ true → IsStrictlyIncreasing (numbers x))
-    rises_by one (Ok x) read = λ _. alone_rises held place before left (numbers x) (rest x) read none
-    rises_by one (Err e) read = tt
+    pub rises_by : (result : Result X IndexRefusal) → IfOk result (λ x. IsReadOn held place before (numbers x)) → IfOk result (λ x. IsStrictlyIncreasing (numbers x))
+    rises_by (Ok x) read = alone_rises held place before (numbers x) read none
+    rises_by (Err e) read = tt
 
-    pub stands_by : (result : Result X IndexRefusal) → IfOk result (λ x. IsReadOn held place before left (numbers x) (rest x)) → OnOk result (ListsStand held (filter passes held.rows))
-    stands_by (Ok x) read = row_stands (numbers x) (rest x) read
+    pub stands_by : (result : Result X IndexRefusal) → IfOk result (λ x. IsReadOn held place before (numbers x)) → OnOk result (ListsStand held (filter passes held.rows))
+    stands_by (Ok x) read = row_stands (numbers x) read
     stands_by (Err e) read = tt
-
-    pub within_by : (result : Result X IndexRefusal) → left ≤ 8 * length held.lists.bytes → IfOk result (λ x. IsReadOn held place before left (numbers x) (rest x)) → OnOk result (IsWithinBudget held.lists (filter passes held.rows))
-    within_by (Ok x) most read = row_within (numbers x) (rest x) most read
-    within_by (Err e) most read = tt
 
 -- ---- which row it is
 
@@ -118,9 +96,3 @@ module _ {X : Type 0} (shown : X → List ℕ) (wanted : X → Bool) where
   pub differs_found : (r : Option X) (condition : Condition) (text : List ℕ) → condition ≡ NotEqual text → IfSome r (λ one. shown one ≡ text) → IfSome r (λ one. wanted one ≡ false) → IfSome r (λ one. text ≡ [] → ⊥) → IfSome r (λ one. IsDecidedBy condition (shown one) (wanted one))
   differs_found None condition text is s w some = tt
   differs_found (Some x) condition text is s w some = subst (λ (k : Condition). IsDecidedBy k (shown x) (wanted x)) (sym is) (subst (λ (t : List ℕ). IsDecidedBy (NotEqual text) t (wanted x)) (sym s) (subst (IsDecidedBy (NotEqual text) text) (sym w) (differs_decides text some)))
-
--- ---- where an external label decides
-
-pub external_within : {X : Type 0} (part : Part) (external : List Label) (rows : List PostingsRow) (m : Matcher) (value name : List ℕ) (r : Result X IndexRefusal) → Some value ≡ value_of external name → name ≡ m.name → OnOk r (IsWithinBudget part (deciding external rows m))
-external_within part external rows m value name (Ok x) found same = subst (λ (o : Option (List ℕ)). IsWithinBudget part (if is_some o then [] else filter (decides m) rows)) (found ∙ ap (value_of external) same) (none_within part)
-external_within part external rows m value name (Err e) found same = tt

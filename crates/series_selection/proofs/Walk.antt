@@ -1,12 +1,11 @@
 -- The walk over the rows of a matcher's name: what was read of the rows before a place.
-use Rattle.std.proofs.Common.{◌≡◌, ◌≢◌, ℕ, zero, suc, ◌+◌, ◌*◌, ◌<◌, ◌≤◌, Bool, true, false, cond, List, [], ◌∷◌, ◌++◌, length, sum_by, take, drop, Option, Some, Result, Ok, Err, refl, sym, ap, subst, ◌∙◌, arith, inl, inr}
+use Rattle.std.proofs.Common.{◌≡◌, ◌≢◌, ℕ, zero, suc, ◌+◌, ◌<◌, ◌≤◌, Bool, true, false, cond, List, [], ◌∷◌, ◌++◌, length, take, drop, Option, Some, Result, Ok, Err, refl, sym, ap, subst, ◌∙◌, arith, inl, inr}
 use mathlib.Core.Bool.{beq}
 use Rattle.std.specs.Prelude.{slice_get, not, if◌then◌else◌, OnOk, IfOk}
 use Rattle.base.specs.Reading.{Gives}
 use Rattle.std.specs.List.{filter}
 use Rattle.std.specs.List.Sorted.{IsStrictlyIncreasing, IsStrictlySortedBy}
-use Rattle.std.proofs.lemmas.List.{append-nil, length-append, take-append-drop}
-use Rattle.std.proofs.lemmas.List.Sums.{sum_by-append, sum_by-cons}
+use Rattle.std.proofs.lemmas.List.{append-nil, take-append-drop}
 use Rattle.std.proofs.lemmas.List.Elements.{filter-append, Contains-append_cases}
 use Rattle.std.proofs.lemmas.Option.{slice_get_within}
 use Rattle.base.proofs.Membership.{no_member, only_member}
@@ -24,12 +23,10 @@ use Rattle.index_v2.specs.declared.refusal.IndexRefusal.TheVariants.{NoMemory}
 use Rattle.index_v2.specs.Held.{Held, IsHeldOf}
 use Rattle.index_v2.specs.PostingsLists.{list_of}
 use Rattle.index_parts.specs.RowOrder.{BeginsAt}
-use Rattle.index_v2.specs.Budget.{list_bytes}
-use Rattle.index_v2.proofs.ListNumbers.{none_rise}
 use Rattle.index_v2.proofs.WholeLoops.{drop_at, front_more}
 use Rattle.index_v2.proofs.ValuesListed.{differs, behind}
 use Rattle.series_selection.specs.Selections.{decides}
-use Rattle.series_selection.specs.SelectionSteps.{numbers_at, ListsStand, IsWithinBudget, IsReadOn}
+use Rattle.series_selection.specs.SelectionSteps.{numbers_at, ListsStand, IsReadOn}
 use Rattle.series_selection.proofs.NumbersRead.{numbers_none, numbers_push, numbers_refused}
 
 -- ---- which rows decide
@@ -77,12 +74,11 @@ module _ {A : Type 0} (p : A → Bool) where
 
 -- ---- the walk
 
--- what was read of the rows before the place, and how much more may be read
-pub record ReadSoFar (held : Held) (m : Matcher) (first place : ℕ) (listed : List ℕ) (left : ℕ) : Type 0 where
+-- what was read of the rows before the place
+pub record ReadSoFar (held : Held) (m : Matcher) (first place : ℕ) (listed : List ℕ) : Type 0 where
   pub from : first ≤ place
   pub read : numbers_at held.lists (filter (decides m) (take place held.rows)) ≡ Ok listed
   pub stand : ListsStand held (filter (decides m) (take place held.rows))
-  pub paid : length listed + (sum_by (list_bytes held.lists) (filter (decides m) (take place held.rows)) + left) ≤ 8 * length held.lists.bytes
 
 pub stand_none : (held : Held) → ListsStand held []
 stand_none held = λ opened is row among list e. absurd (no_member row among)
@@ -105,48 +101,40 @@ stand_one held row list e is = λ opened h other among l read.
     let lists : list ≡ l = ok_same list l (list_of held.lists (Some row)) e (ap (λ (r : PostingsRow). list_of held.lists (Some r)) same ∙ read) in
     subst (λ (r : PostingsRow). IsPostings opened.bytes r.offset l) same (subst (λ (xs : List ℕ). IsPostings opened.bytes row.offset xs) lists (is opened h))
 
-pub walk_start : (held : Held) (m : Matcher) (first : ℕ) (listed : List ℕ) (left : ℕ) → listed ≡ [] → left ≤ 8 * length held.lists.bytes → BeginsAt held.rows m.name first → ReadSoFar held m first first listed left
-walk_start held m first listed left none most begins =
+pub walk_start : (held : Held) (m : Matcher) (first : ℕ) (listed : List ℕ) → listed ≡ [] → BeginsAt held.rows m.name first → ReadSoFar held m first first listed
+walk_start held m first listed none begins =
     let nothing : filter (decides m) (take first held.rows) ≡ [] = front_fails (decides m) first held.rows (λ k row lt at. other_name m row (differs row.name m.name (begins.below k row lt at))) in
     record {
       from = omega arith;
       read = ap (numbers_at held.lists) nothing ∙ numbers_none held.lists ∙ ap Ok (sym none);
       stand = stand_same held [] (filter (decides m) (take first held.rows)) (sym nothing) (stand_none held);
-      paid = omega (arith, most, ap length none, ap (sum_by (list_bytes held.lists)) nothing);
     }
 
 -- a row that does not decide
-pub walk_past : (held : Held) (m : Matcher) (first place : ℕ) (listed : List ℕ) (left : ℕ) (row : PostingsRow) → ReadSoFar held m first place listed left → slice_get held.rows place ≡ Some row → decides m row ≡ false → ReadSoFar held m first (place + 1) listed left
-walk_past held m first place listed left row far at not_it =
+pub walk_past : (held : Held) (m : Matcher) (first place : ℕ) (listed : List ℕ) (row : PostingsRow) → ReadSoFar held m first place listed → slice_get held.rows place ≡ Some row → decides m row ≡ false → ReadSoFar held m first (place + 1) listed
+walk_past held m first place listed row far at not_it =
     let same : filter (decides m) (take (place + 1) held.rows) ≡ filter (decides m) (take place held.rows) = ap (filter (decides m)) (front_more held.rows place row at) ∙ filter-append (decides m) (take place held.rows) (row ∷ []) ∙ ap (λ (xs : List PostingsRow). filter (decides m) (take place held.rows) ++ xs) (filter_miss (decides m) row [] not_it) ∙ append-nil (filter (decides m) (take place held.rows)) in
     let from = far.from in
     record {
       from = omega arith;
       read = ap (numbers_at held.lists) same ∙ far.read;
       stand = stand_same held _ _ (sym same) far.stand;
-      paid = omega (arith, far.paid, ap (sum_by (list_bytes held.lists)) same);
     }
 
--- what a list more costs
-spent : (bytes : PostingsRow → ℕ) (listed new list : List ℕ) (rows more : List PostingsRow) (row : PostingsRow) (left rest most : ℕ) → length listed + (sum_by bytes rows + left) ≤ most → new ≡ listed ++ list → more ≡ rows ++ row ∷ [] → rest + (length list + bytes row) ≡ left → length new + (sum_by bytes more + rest) ≤ most
-spent bytes listed new list rows more row left rest most within e further cost =
-    rw (e, further) (omega (arith, within, cost, length-append listed list, sum_by-append bytes rows (row ∷ []), sum_by-cons bytes row []))
-
 -- a row whose list was read
-pub walk_on : (held : Held) (m : Matcher) (first place : ℕ) (listed new list : List ℕ) (left rest : ℕ) (row : PostingsRow) → ReadSoFar held m first place listed left → slice_get held.rows place ≡ Some row → decides m row ≡ true → list_of held.lists (Some row) ≡ Ok list → ((opened : Opened) → IsHeldOf held opened → IsPostings opened.bytes row.offset list) → new ≡ listed ++ list → rest + (length list + list_bytes held.lists row) ≡ left → ReadSoFar held m first (place + 1) new rest
-walk_on held m first place listed new list left rest row far at it read is e cost =
+pub walk_on : (held : Held) (m : Matcher) (first place : ℕ) (listed new list : List ℕ) (row : PostingsRow) → ReadSoFar held m first place listed → slice_get held.rows place ≡ Some row → decides m row ≡ true → list_of held.lists (Some row) ≡ Ok list → ((opened : Opened) → IsHeldOf held opened → IsPostings opened.bytes row.offset list) → new ≡ listed ++ list → ReadSoFar held m first (place + 1) new
+walk_on held m first place listed new list row far at it read is e =
     let same : filter (decides m) (take (place + 1) held.rows) ≡ filter (decides m) (take place held.rows) ++ row ∷ [] = ap (filter (decides m)) (front_more held.rows place row at) ∙ filter-append (decides m) (take place held.rows) (row ∷ []) ∙ ap (λ (xs : List PostingsRow). filter (decides m) (take place held.rows) ++ xs) (filter_hit (decides m) row [] it) in
     let from = far.from in
     record {
       from = omega arith;
       read = ap (numbers_at held.lists) same ∙ numbers_push held.lists (filter (decides m) (take place held.rows)) row listed list far.read read ∙ ap Ok (sym e);
       stand = stand_same held _ _ (sym same) (stand_append held (filter (decides m) (take place held.rows)) (row ∷ []) far.stand (stand_one held row list read is));
-      paid = spent (list_bytes held.lists) listed new list (filter (decides m) (take place held.rows)) (filter (decides m) (take (place + 1) held.rows)) row left rest (8 * length held.lists.bytes) far.paid e same cost;
     }
 
 -- a row whose list is refused
-pub walk_refused : (held : Held) (m : Matcher) (first place : ℕ) (listed : List ℕ) (left : ℕ) (row : PostingsRow) (e : IndexRefusal) → ReadSoFar held m first place listed left → slice_get held.rows place ≡ Some row → decides m row ≡ true → list_of held.lists (Some row) ≡ Err e → numbers_at held.lists (filter (decides m) held.rows) ≡ Err e
-walk_refused held m first place listed left row e far at it refused =
+pub walk_refused : (held : Held) (m : Matcher) (first place : ℕ) (listed : List ℕ) (row : PostingsRow) (e : IndexRefusal) → ReadSoFar held m first place listed → slice_get held.rows place ≡ Some row → decides m row ≡ true → list_of held.lists (Some row) ≡ Err e → numbers_at held.lists (filter (decides m) held.rows) ≡ Err e
+walk_refused held m first place listed row e far at it refused =
     let whole : held.rows ≡ take place held.rows ++ row ∷ drop (place + 1) held.rows = sym (take-append-drop place held.rows) ∙ ap (λ (xs : List PostingsRow). take place held.rows ++ xs) (drop_at held.rows place row at) in
     let split : filter (decides m) held.rows ≡ filter (decides m) (take place held.rows) ++ row ∷ filter (decides m) (drop (place + 1) held.rows) = ap (filter (decides m)) whole ∙ filter-append (decides m) (take place held.rows) (row ∷ drop (place + 1) held.rows) ∙ ap (λ (xs : List PostingsRow). filter (decides m) (take place held.rows) ++ xs) (filter_hit (decides m) row (drop (place + 1) held.rows) it) in
     ap (numbers_at held.lists) split ∙ numbers_refused held.lists (filter (decides m) (take place held.rows)) row (filter (decides m) (drop (place + 1) held.rows)) listed e far.read refused
@@ -155,46 +143,47 @@ walk_refused held m first place listed left row e far at it refused =
 pub record AllRead (held : Held) (m : Matcher) (listed : List ℕ) : Type 0 where
   pub read : numbers_at held.lists (filter (decides m) held.rows) ≡ Ok listed
   pub stand : ListsStand held (filter (decides m) held.rows)
-  pub within : IsWithinBudget held.lists (filter (decides m) held.rows)
 
-all_read : (held : Held) (m : Matcher) (first place : ℕ) (listed : List ℕ) (left : ℕ) → ReadSoFar held m first place listed left → filter (decides m) held.rows ≡ filter (decides m) (take place held.rows) → AllRead held m listed
-all_read held m first place listed left far same =
+all_read : (held : Held) (m : Matcher) (first place : ℕ) (listed : List ℕ) → ReadSoFar held m first place listed → filter (decides m) held.rows ≡ filter (decides m) (take place held.rows) → AllRead held m listed
+all_read held m first place listed far same =
     let read : numbers_at held.lists (filter (decides m) held.rows) ≡ Ok listed = ap (numbers_at held.lists) same ∙ far.read in
     record {
       read = read;
       stand = stand_same held _ _ (sym same) far.stand;
-      within = λ numbers e. let one = ok_same numbers listed (numbers_at held.lists (filter (decides m) held.rows)) e read in omega (arith, far.paid, ap length one, ap (sum_by (list_bytes held.lists)) same);
     }
 
 -- a row of another name
-pub walk_stop : (held : Held) (m : Matcher) (first place : ℕ) (listed : List ℕ) (left : ℕ) (row : PostingsRow) → IsStrictlySortedBy compare_rows held.rows → BeginsAt held.rows m.name first → ReadSoFar held m first place listed left → slice_get held.rows place ≡ Some row → row.name ≢ m.name → AllRead held m listed
-walk_stop held m first place listed left row ascend begins far at other =
-    all_read held m first place listed left far (rest_fails (decides m) place held.rows (λ k r le there. other_name m r (behind held.rows m.name place k row r ascend at (begins.above place row far.from at) other le there)))
+pub walk_stop : (held : Held) (m : Matcher) (first place : ℕ) (listed : List ℕ) (row : PostingsRow) → IsStrictlySortedBy compare_rows held.rows → BeginsAt held.rows m.name first → ReadSoFar held m first place listed → slice_get held.rows place ≡ Some row → row.name ≢ m.name → AllRead held m listed
+walk_stop held m first place listed row ascend begins far at other =
+    all_read held m first place listed far (rest_fails (decides m) place held.rows (λ k r le there. other_name m r (behind held.rows m.name place k row r ascend at (begins.above place row far.from at) other le there)))
 
 -- the last row
-pub walk_end : (held : Held) (m : Matcher) (first place : ℕ) (listed : List ℕ) (left : ℕ) → ReadSoFar held m first place listed left → length held.rows ≤ place → AllRead held m listed
-walk_end held m first place listed left far le =
-    all_read held m first place listed left far (rest_fails (decides m) place held.rows (λ k r past there. let within = slice_get_within held.rows k r there in absurd (omega arith)))
+pub walk_end : (held : Held) (m : Matcher) (first place : ℕ) (listed : List ℕ) → ReadSoFar held m first place listed → length held.rows ≤ place → AllRead held m listed
+walk_end held m first place listed far le =
+    all_read held m first place listed far (rest_fails (decides m) place held.rows (λ k r past there. let within = slice_get_within held.rows k r there in absurd (omega arith)))
 
 -- ---- what the calls say
 
-module _ (held : Held) (m : Matcher) (first place : ℕ) (listed : List ℕ) (left : ℕ) (row : PostingsRow) (far : ReadSoFar held m first place listed left) (at : ◌≡◌ {A = Option PostingsRow} (Some row) (slice_get held.rows place)) where
-  pub passed : (new : List ℕ) (rest : ℕ) → decides m row ≡ false → new ≡ listed → rest ≡ left → ReadSoFar held m first (place + 1) new rest
-  passed new rest not_it e f = subst (ReadSoFar held m first (place + 1) new) (sym f) (subst (λ (xs : List ℕ). ReadSoFar held m first (place + 1) xs left) (sym e) (walk_past held m first place listed left row far (sym at) not_it))
+module _ (held : Held) (m : Matcher) (first place : ℕ) (listed : List ℕ) (row : PostingsRow) (far : ReadSoFar held m first place listed) (at : ◌≡◌ {A = Option PostingsRow} (Some row) (slice_get held.rows place)) where
+  pub passed : (new : List ℕ) → decides m row ≡ false → new ≡ listed → ReadSoFar held m first (place + 1) new
+  passed new not_it e = subst (λ (xs : List ℕ). ReadSoFar held m first (place + 1) xs) (sym e) (walk_past held m first place listed row far (sym at) not_it)
 
-  pub went_on : (new : List ℕ) (rest : ℕ) → decides m row ≡ true → IsReadOn held place listed left new rest → ReadSoFar held m first (place + 1) new rest
-  went_on new rest it r =
-      walk_on held m first place listed new r.list left rest row far (sym at) it (ap (list_of held.lists) at ∙ r.list_is) (λ opened is. r.stands opened is row (ap (λ (rows : List PostingsRow). slice_get rows place) (sym is.rows_are) ∙ sym at)) r.numbers_are (r.paid row (sym at))
+  pub went_on : (new : List ℕ) → decides m row ≡ true → IsReadOn held place listed new → ReadSoFar held m first (place + 1) new
+  went_on new it r =
+      walk_on held m first place listed new r.list row far (sym at) it (ap (list_of held.lists) at ∙ r.list_is) (λ opened is. r.stands opened is row (ap (λ (rows : List PostingsRow). slice_get rows place) (sym is.rows_are) ∙ sym at)) r.numbers_are
 
   pub stopped : (e : IndexRefusal) → decides m row ≡ true → list_of held.lists (slice_get held.rows place) ≡ Err e → numbers_at held.lists (filter (decides m) held.rows) ≡ Err e
-  stopped e it refused = walk_refused held m first place listed left row e far (sym at) it (ap (list_of held.lists) at ∙ refused)
+  stopped e it refused = walk_refused held m first place listed row e far (sym at) it (ap (list_of held.lists) at ∙ refused)
 
 -- one list alone ascends
-pub alone_rises : (held : Held) (place : ℕ) (before : List ℕ) (left : ℕ) (numbers : List ℕ) (rest : ℕ) → IsReadOn held place before left numbers rest → before ≡ [] → IsStrictlyIncreasing numbers
-alone_rises held place before left numbers rest r none = subst IsStrictlyIncreasing (sym (r.numbers_are ∙ ap (λ (xs : List ℕ). xs ++ r.list) none)) r.rises
+pub alone_rises : (held : Held) (place : ℕ) (before numbers : List ℕ) → IsReadOn held place before numbers → before ≡ [] → IsStrictlyIncreasing numbers
+alone_rises held place before numbers r none = subst IsStrictlyIncreasing (sym (r.numbers_are ∙ ap (λ (xs : List ℕ). xs ++ r.list) none)) r.rises
 
-pub nothing_rises : (numbers : List ℕ) → numbers ≡ [] → IsStrictlyIncreasing numbers
-nothing_rises numbers none = subst IsStrictlyIncreasing (sym none) none_rise
+-- the list of a row
+pub row_is_read : (held : Held) (place : ℕ) (r : Result (List ℕ) IndexRefusal) → Gives NoMemory (λ x. x) r (list_of held.lists (slice_get held.rows place)) → IfOk r IsStrictlyIncreasing
+    → ((opened : Opened) → IsHeldOf held opened → (row : PostingsRow) → slice_get opened.rows place ≡ Some row → IfOk r (λ numbers. IsPostings opened.bytes row.offset numbers)) → IfOk r (λ list. IsReadOn held place [] list)
+row_is_read held place (Ok list) read rise found = record { list = list; list_is = read; numbers_are = refl; rises = rise; stands = found }
+row_is_read held place (Err e) read rise found = tt
 
 -- the list of the first row
 first_stands : (held : Held) (rows : List PostingsRow) (numbers : List ℕ) → held.rows ≡ rows → list_of held.lists (slice_get rows 0) ≡ Ok numbers

@@ -1,5 +1,5 @@
 -- What selecting series gives, matcher by matcher, or the first refusal.
-use Rattle.std.specs.Prelude.{◌≡◌, ℕ, ◌+◌, ◌*◌, ◌≤◌, List, [], ◌∷◌, ◌++◌, length, sum_by, slice_get, Option, Some, None, Bool, not, Result, Ok, if◌then◌else◌}
+use Rattle.std.specs.Prelude.{◌≡◌, ℕ, List, [], ◌∷◌, ◌++◌, map, slice_get, Option, Some, None, Bool, not, Result, Ok, if◌then◌else◌}
 use Rattle.std.specs.List.{Contains, filter, flat_map}
 use Rattle.std.specs.List.Sorted.{IsStrictlyIncreasing}
 use Rattle.std.specs.Str.{bytes_eq}
@@ -16,7 +16,6 @@ use Rattle.index_parts.specs.Parts.{Part}
 use Rattle.index_parts.specs.Opened.{Opened}
 use Rattle.index_v2.specs.declared.refusal.IndexRefusal.{IndexRefusal}
 use Rattle.index_v2.specs.Held.{Held, IsHeldOf}
-use Rattle.index_v2.specs.Budget.{list_bytes, read_share}
 use Rattle.index_v2.specs.PostingsLists.{list_of}
 use Rattle.index_v2.specs.WholeReading.{lists_at}
 use Rattle.series_selection.specs.Selections.{decides}
@@ -30,6 +29,16 @@ unfoldable pub numbers_at : Part → List PostingsRow → Result (List ℕ) Inde
 numbers_at part rows = do
   lists ← lists_at part rows
   Ok (flat_map (λ list. list) lists)
+
+-- which of numbers are among others
+abbrev pub marks_of : List ℕ → List ℕ → List Bool
+marks_of others numbers = map (λ n. is_one_of others n) numbers
+
+-- the lists of rows are read, and these marks say which of numbers they have
+pub record AreMarked (part : Part) (rows : List PostingsRow) (numbers : List ℕ) (marks : List Bool) : Type 0 where
+  pub listed : List ℕ
+  pub read : numbers_at part rows ≡ Ok listed
+  pub marks_are : marks ≡ marks_of listed numbers
 
 -- those that a matcher leaves of numbers, by the rows
 unfoldable pub left_by_rows : Part → List PostingsRow → Matcher → List ℕ → Result (List ℕ) IndexRefusal
@@ -54,19 +63,13 @@ selected_at held external selector = list_of held.lists (slice_get held.rows 0) 
 abbrev pub ListsStand : Held → List PostingsRow → Type 0
 ListsStand held rows = (opened : Opened) → IsHeldOf held opened → (row : PostingsRow) → Contains rows row → (list : List ℕ) → list_of held.lists (Some row) ≡ Ok list → IsPostings opened.bytes row.offset list
 
--- The numbers in the lists of these rows, and the bytes that the lists are said to take, come to eight at most for each byte of
--- the part in which lists are read.
-abbrev pub IsWithinBudget : Part → List PostingsRow → Type 0
-IsWithinBudget part rows = (numbers : List ℕ) → numbers_at part rows ≡ Ok numbers → length numbers + sum_by (list_bytes part) rows ≤ read_share * length part.bytes
-
--- The list of the row at a place was read behind other numbers, and what it costs was taken of what was left.
-pub record IsReadOn (held : Held) (place : ℕ) (before : List ℕ) (left : ℕ) (numbers : List ℕ) (rest : ℕ) : Type 0 where
+-- The list of the row at a place was read behind other numbers.
+pub record IsReadOn (held : Held) (place : ℕ) (before numbers : List ℕ) : Type 0 where
   pub list : List ℕ
   pub list_is : list_of held.lists (slice_get held.rows place) ≡ Ok list
   pub numbers_are : numbers ≡ before ++ list
   pub rises : IsStrictlyIncreasing list
   pub stands : (opened : Opened) → IsHeldOf held opened → (row : PostingsRow) → slice_get opened.rows place ≡ Some row → IsPostings opened.bytes row.offset list
-  pub paid : (row : PostingsRow) → slice_get held.rows place ≡ Some row → rest + (length list + list_bytes held.lists row) ≡ left
 
 -- A condition that one text decides: its rows are those of this value, and their series are wanted where it does not accept
 -- the empty text.

@@ -9,7 +9,7 @@ ghost use Rattle.series_selection.specs.Selections.{deciding};
 ghost use Rattle.series_selection.specs.SelectionSteps.{numbers_at};
 
 /// In an index of a list of series the lists that are read for one matcher share no number: together they have no more than all
-/// series. So only the bytes of lists that lie within one another can pass the budget of reading them.
+/// series.
 pub fn lists_share_no_number()
     ensures { (bytes : List ℕ) (list : List IndexSeries) (is : IsIndex bytes list)
         → (external : List Label) (matcher : Matcher) (numbers : List ℕ)

@@ -3,6 +3,7 @@
 
 mod keeping;
 mod laws;
+mod marking;
 mod rows;
 mod selection;
 

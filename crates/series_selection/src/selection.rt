@@ -1,6 +1,9 @@
+//! How a selector finds its series in an index without reading one: by postings lists alone, as Prometheus does it.
+//! Where a matcher names an external label of the block, all its series have that value or none does.
+
 ghost use Rattle.std.specs.Prelude.{◌≡◌, ◌⊎◌, ◌*◌, ◌^◌, ◌<◌, ◌≤◌, ℕ, List, [], All, length, Some, Ok, Err, IfOk, IfErr, IsOk, OnOk, MatchResult, true, if◌then◌else◌};
 ghost use Rattle.std.specs.List.{Contains, filter, flat_map};
-ghost use Rattle.std.specs.List.Sorted.{IsStrictlyIncreasing, IsNonDecreasing, IsPermutation};
+ghost use Rattle.std.specs.List.Sorted.{IsStrictlyIncreasing};
 ghost use Rattle.base.specs.Reading.{Gives};
 ghost use Rattle.label_sets.specs.Labels.{value_of};
 ghost use Rattle.matchers.specs.declared.matcher.Matcher.{Matcher};
@@ -18,11 +21,11 @@ ghost use Rattle.index_v2.specs.WholeReading.{lists_at};
 ghost use Rattle.index_v2.specs.declared.refusal.IndexRefusal.{IndexRefusal};
 ghost use Rattle.index_v2.specs.declared.refusal.IndexRefusal.TheVariants.{NoMemory};
 ghost use Rattle.series_selection.specs.Selections.{decides, deciding, rows_read, IsSelection, AreMatching};
-ghost use Rattle.series_selection.specs.SelectionSteps.{left_by, left_by_rows, left_at, selected_at, ListsStand, IsWithinBudget};
+ghost use Rattle.series_selection.specs.SelectionSteps.{left_by, left_by_rows, left_at, selected_at, ListsStand, IsDecidedBy};
 
 use crate::keeping::kept_numbers;
-use crate::rows::{Listed, all_listed, listed_by};
-use base::NoMemory as OutOfMemory;
+use crate::marking::kept_marked;
+use crate::rows::{all_listed, listed_in, marked_under, only_value};
 use index_v2::{IndexReader, IndexRefusal};
 use label_sets::LabelSet;
 use matchers::{Matcher, Selector};
@@ -34,11 +37,10 @@ use wire_bytes::NumberList;
 /// Read are the list of the first row and those of the rows that decide what a matcher takes, and no series. The row that
 /// decides for `=` or `!=` with a text is found by halving. So is the first row of another matcher's name, and it is asked once
 /// for each row of the name. It takes time in proportion to these rows and to the bytes of the lists, and where a matcher reads
-/// several lists, to their numbers times the logarithm of how many lists there are. The time is reckoned and not proved.
+/// several lists, to their numbers times the logarithm of how many series are left. The time is reckoned and not proved.
 ///
-/// Where the lists of one matcher come to more than eight bytes and numbers for each byte of the part in which lists are read,
-/// it answers `NoMemory`. In an index whose lists lie apart they come to less than two, since the lists of one name share no
-/// number: only rows that share a list, or lists that lie within one another, ask for more.
+/// Beside the numbers of the first row it holds a mark for each and one list at a time, however many rows share a list (that is
+/// how it is written, and no clause).
 pub fn select_postings(
     alloc: Global,
     index: &IndexReader<'_>,
@@ -57,11 +59,9 @@ pub fn select_postings(
     ensures refused { IfErr result (λ e. (e ≡ NoMemory)
         ⊎ (lists_at index.now.lists (rows_read external.now index.now.rows selector.now) ≡ Err e)) }
 
-    // The numbers have 32 bits, and are no more than one list can have. What is read for a matcher is within its budget.
+    // The numbers have 32 bits, and are no more than one list can have.
     ensures small { IfOk result (All (λ n. n < 2 ^ 32)) }
     ensures few { IfOk result (λ numbers. 4 * length numbers ≤ length index.now.lists.bytes) }
-    ensures budget { OnOk result ((matcher : Matcher) → Contains selector.now matcher
-        → IsWithinBudget index.now.lists (deciding external.now index.now.rows matcher)) }
 
     // Over the whole of an opened index, or over parts of it, it is what the selector takes by the lists that stand there.
     ensures found { (opened : Opened) → IsHeldOf index.now opened
@@ -116,8 +116,6 @@ fn selected_numbers(
     ensures few { IfOk result (λ numbers. 4 * length numbers ≤ length index.now.lists.bytes) }
     ensures stand { OnOk result
         (ListsStand index.now (rows_read external.now index.now.rows selector.now)) }
-    ensures budget { OnOk result ((matcher : Matcher) → Contains selector.now matcher
-        → IsWithinBudget index.now.lists (deciding external.now index.now.rows matcher)) }
 {
     let listed = all_listed(alloc, index)?;
     left_by_all(alloc, index, selector.matchers(), external, listed)
@@ -137,8 +135,6 @@ fn left_by_all(
     ensures rises { IfOk result IsStrictlyIncreasing }
     ensures stand { OnOk result (ListsStand index.now
         (flat_map (deciding external.now index.now.rows) matchers.now)) }
-    ensures budget { OnOk result ((matcher : Matcher) → Contains matchers.now matcher
-        → IsWithinBudget index.now.lists (deciding external.now index.now.rows matcher)) }
 {
     let mut left = numbers;
     for matcher in matchers {
@@ -162,8 +158,6 @@ fn left_by(
     ensures rises { IfOk result IsStrictlyIncreasing }
     ensures stand { OnOk result
         (ListsStand index.now (deciding external.now index.now.rows matcher.now)) }
-    ensures budget { OnOk result
-        (IsWithinBudget index.now.lists (deciding external.now index.now.rows matcher.now)) }
 {
     match external.value(matcher.name.as_str()) {
         Some(value) => left_by_value(alloc, matcher, value, numbers),
@@ -191,8 +185,8 @@ fn left_by_value(
 }
 
 /// Those of the numbers that stand in a row whose value the matcher accepts. Where it accepts the empty value, which a missing
-/// label has, those that stand in no row whose value it refuses.
-#[tactic(auto, unfolding(crate::specs::SelectionSteps::left_by_rows))]
+/// label has, those that stand in no row whose value it refuses. A matcher with one text looks its row up. Another is asked once
+/// for each row of its name.
 fn left_by_rows(
     alloc: Global,
     index: &IndexReader<'_>,
@@ -205,25 +199,57 @@ fn left_by_rows(
     ensures rises { IfOk result IsStrictlyIncreasing }
     ensures stand { OnOk result
         (ListsStand index.now (filter (decides matcher.now) index.now.rows)) }
-    ensures budget { OnOk result
-        (IsWithinBudget index.now.lists (filter (decides matcher.now) index.now.rows)) }
 {
-    let (wanted, listed) = listed_by(alloc, index, matcher)?;
-    let others = sorted_numbers(listed)?;
-    Ok(kept_numbers(alloc, wanted, others.as_slice(), numbers.members())?)
+    match only_value(&matcher.condition) {
+        Some((value, wanted)) => left_by_one(alloc, index, matcher, value, wanted, numbers),
+        None => left_by_asking(alloc, index, matcher, numbers),
+    }
 }
 
-/// The numbers of lists, ascending. Several lists are merged by the sort, which keeps what stands in order: thousands of short
-/// lists cost a logarithm so, and not one pass over what was merged for each.
-fn sorted_numbers(listed: Listed) -> Result<Vec<u64>, OutOfMemory>
-    requires { listed.is_one ≡ true → IsStrictlyIncreasing listed.numbers.items }
-    ensures rises { IfOk result (λ all. IsNonDecreasing all.items) }
-    ensures same { IfOk result (λ all. IsPermutation listed.numbers.items all.items) }
+/// By the list of the one row that decides.
+fn left_by_one(
+    alloc: Global,
+    index: &IndexReader<'_>,
+    matcher: &Matcher,
+    value: &str,
+    wanted: bool,
+    numbers: NumberList,
+) -> Result<NumberList, IndexRefusal>
+    requires decided { IsDecidedBy matcher.now.condition value.now wanted }
+    requires rise { IsStrictlyIncreasing numbers }
+    ensures gives { Gives NoMemory (λ left. left) result
+        (left_by_rows index.now.lists index.now.rows matcher.now numbers) }
+    ensures rises { IfOk result IsStrictlyIncreasing }
+    ensures stand { OnOk result
+        (ListsStand index.now (filter (decides matcher.now) index.now.rows)) }
 {
-    if listed.is_one {
-        return Ok(listed.numbers);
-    }
-    let mut all = listed.numbers;
-    all.sort()?;
-    Ok(all)
+    let listed = listed_in(alloc, index, matcher.name.as_str(), value)?;
+    Ok(kept_numbers(alloc, wanted, listed.members(), numbers.members())?)
+}
+
+/// By the lists of the rows that decide, where each row of the name is asked.
+fn left_by_asking(
+    alloc: Global,
+    index: &IndexReader<'_>,
+    matcher: &Matcher,
+    numbers: NumberList,
+) -> Result<NumberList, IndexRefusal>
+    requires { IsStrictlyIncreasing numbers }
+    ensures gives { Gives NoMemory (λ left. left) result
+        (left_by_rows index.now.lists index.now.rows matcher.now numbers) }
+    ensures rises { IfOk result IsStrictlyIncreasing }
+    ensures stand { OnOk result
+        (ListsStand index.now (filter (decides matcher.now) index.now.rows)) }
+{
+    let mut searcher = matcher.condition.searcher()?;
+    let wanted = !searcher.accepts("");
+    let marks = marked_under(
+        alloc,
+        index,
+        matcher,
+        &mut searcher,
+        wanted,
+        numbers.members(),
+    )?;
+    Ok(kept_marked(alloc, wanted, marks.as_slice(), numbers.members())?)
 }

@@ -1,9 +1,9 @@
 //! An upload, begun and driven through a hand.
 
-ghost use Rattle.std.specs.Prelude.{◌≡◌, ◌||◌, ◌⊎◌, ℕ, IfSome, IsTrue};
+ghost use Rattle.std.specs.Prelude.{ℕ};
 ghost use Rattle.block_keys.specs.Blocks.{IsBlock};
-ghost use Rattle.world_core.specs.Keeping.{IsFull};
-ghost use Rattle.world_core.specs.Machines.{Drives, is_driven_full};
+ghost use Rattle.world_core.specs.Machines.{Drives, is_driven_full, is_driven_wanting};
+ghost use Rattle.world_core.specs.Turning.{Turned};
 ghost use Rattle.world_core.specs.Plans.{Runs};
 ghost use Rattle.shipper.specs.Uploads.{upload};
 
@@ -19,13 +19,9 @@ pub fn run_upload<H: Hand>(
 ) -> Driven<UploadEnd>
     requires { (ulid : ℕ) × IsBlock ulid objects }
     ensures run { (ulid : ℕ) → IsBlock ulid objects → Drives (Runs (upload ulid objects))
-        (H.seat hand.old) stop result (H.entries hand.old) (H.entries hand.new) }
-    ensures seat { H.seat hand.new ≡ H.seat hand.old }
-    ensures keeps { H.keeps hand.old hand.new }
-    ensures wanted { IsTrue (H.wanted hand.new)
-        → IsTrue (H.wanted hand.old) ⊎ (result ≡ Driven.NoMemory) }
-    ensures refused { H.refused hand.new ≡ (H.refused hand.old || is_driven_full result) }
-    ensures full { result ≡ Driven.Full → IfSome (H.front hand.new) IsFull }
+        (H.told hand.old).seat stop result (H.told hand.old).entries (H.told hand.new).entries }
+    ensures hand { Turned H.told H.keeps hand.old hand.new (is_driven_full result)
+        (is_driven_wanting result) }
 {
     run_begun(Upload::start(objects), stop, hand)
 }

@@ -1,3 +1,6 @@
+//! The machine of an upload. It looks at the meta first, since a block whose meta stands is complete. One that was
+//! interrupted is done again from its first object: that does no harm, as a key of a block always has the same bytes.
+
 ghost use Rattle.std.specs.Prelude.{◌≡◌, ℕ, ◌<◌, ◌≤◌, List, [], ◌∷◌, length, drop, Option, Some, IfOk, IsTrue, IsSomeAnd};
 ghost use Rattle.world_core.specs.Machines.{GoesOn, Falls};
 ghost use Rattle.world_core.specs.Operations.{IsAnswer, entry_of};

@@ -1,14 +1,16 @@
 -- What a reader over parts of an index holds.
-use Rattle.std.proofs.Common.{◌≡◌, ℕ, ◌<◌, ◌==◌, Bool, true, false, List, [], refl, subst, Result, Ok, arith}
+use Rattle.std.proofs.Common.{◌≡◌, ◌⊎◌, inl, inr, ℕ, ◌<◌, ◌==◌, Bool, true, false, List, [], refl, subst, Result, Ok, Err, arith}
 use Rattle.std.proofs.lemmas.Bool.{ne_eqb}
-use Rattle.std.specs.Prelude.{if◌then◌else◌}
-use Rattle.base.specs.Reading.{refused_as}
+use Rattle.std.specs.Prelude.{IsOk, if◌then◌else◌}
+use Rattle.base.specs.Reading.{◌>>=◌, refused_as}
 use Rattle.base.proofs.Binds.{bind_ok, refused_as_ok}
+use Rattle.index_parts.specs.declared.postings_row.PostingsRow.{PostingsRow}
 use Rattle.index_parts.specs.declared.refusal.PartRefusal.{PartRefusal}
 use Rattle.index_parts.specs.SymbolsReading.{symbols_at}
 use Rattle.index_parts.specs.RowsReading.{postings_table_at}
 use Rattle.index_parts.specs.Parts.{known}
 use Rattle.index_v2.specs.declared.refusal.IndexRefusal.{IndexRefusal}
+use Rattle.index_v2.specs.declared.refusal.IndexRefusal.TheVariants.{NoMemory}
 use Rattle.index_v2.specs.declared.lent_parts.IndexParts.{IndexParts}
 use Rattle.index_v2.specs.Held.{Held, symbols_of, table_of, lists_of, held_of}
 use Rattle.index_v2.specs.Opening.{refused_in, held_at, over_at}
@@ -45,3 +47,29 @@ over_holds parts held is =
       rows = λ there. held_there 6 postings_table_at (known (table_of parts)) parts.toc.postings_table rows.0 there rows.1;
       lists = refl;
     })
+
+-- over a table that is read, and without symbols, nothing but memory is wanting
+
+held_read : {A : Type 0} (section : ℕ) (b : Bool) (read : Result (List A) PartRefusal) → IsOk read → IsOk (if b then Ok [] else refused_as (refused_in section) read)
+held_read section true read is = refl
+held_read section false (Ok x) is = refl
+held_read section false (Err e) is = absurd (cc (is))
+
+absent_read : {A : Type 0} (section : ℕ) (read : List ℕ → ℕ → Result (List A) PartRefusal) (index : List ℕ) (reference : ℕ) → reference ≡ 0 → IsOk (held_at section read index reference)
+absent_read section read index reference none = rw none refl
+
+then_reads : {A B : Type 0} (r : Result A IndexRefusal) (later : A → Result B IndexRefusal) → IsOk r → ((x : A) → IsOk (later x)) → IsOk (r >>= later)
+then_reads (Ok x) later is reads = reads x
+then_reads (Err e) later is reads = absurd (cc (is))
+
+pub over_reads : (parts : IndexParts) → parts.toc.symbols ≡ 0 → IsOk (postings_table_at (known (table_of parts)) parts.toc.postings_table) → IsOk (over_at parts)
+unfolding over_at
+over_reads parts none is =
+    then_reads (held_at 1 symbols_at (known (symbols_of parts)) parts.toc.symbols) _ (absent_read 1 symbols_at (known (symbols_of parts)) parts.toc.symbols none)
+    (λ symbols. then_reads (held_at 6 postings_table_at (known (table_of parts)) parts.toc.postings_table) _
+    (held_read 6 (parts.toc.postings_table == 0) (postings_table_at (known (table_of parts)) parts.toc.postings_table) is) (λ rows. refl))
+
+pub memory_alone : (e : IndexRefusal) (read : Result Held IndexRefusal) → IsOk read → (e ≡ NoMemory) ⊎ (read ≡ Err e) → e ≡ NoMemory
+memory_alone e read is (inl out) = out
+memory_alone e (Ok x) is (inr refused) = absurd cc
+memory_alone e (Err d) is (inr refused) = absurd (cc (is))

@@ -1,9 +1,10 @@
 //! The runs of series that are read, and their series.
-ghost use Rattle.std.specs.Prelude.{◌≡◌, ◌+◌, ◌^◌, ◌<◌, length, map, option_map, IfOk, Ok};
+ghost use Rattle.std.specs.Prelude.{◌≡◌, ◌+◌, ◌^◌, ◌<◌, length, map, option_map, IfOk, IsOk, Ok};
 ghost use Rattle.std.specs.List.{list_all};
 ghost use Rattle.store_ranges.specs.Caches.{held};
 ghost use Rattle.index_parts.specs.RowsReading.{postings_table_at};
 ghost use Rattle.index_parts.specs.Parts.{known};
+ghost use Rattle.index_v2.specs.declared.refusal.IndexRefusal.TheVariants.{NoMemory as WithoutMemory};
 ghost use Rattle.store_ranges.specs.IndexRanges.{has_bytes};
 ghost use Rattle.store_ranges.specs.IndexReads.{reached};
 ghost use Rattle.store_ranges.specs.Asking.{query_asked, block_asked};
@@ -37,6 +38,21 @@ pub(crate) enum Taken {
     Refused,
 }
 
+/// A refusal that is want of memory.
+fn only_memory(refusal: IndexRefusal) -> NoMemory
+    requires { refusal ≡ WithoutMemory }
+{
+    match refusal {
+        IndexRefusal::NoMemory => NoMemory,
+        IndexRefusal::BadMagic
+        | IndexRefusal::BadVersion
+        | IndexRefusal::BadTocSum { .. }
+        | IndexRefusal::BadSection(..)
+        | IndexRefusal::BadSeries(..)
+        | IndexRefusal::PostingsDiffer(_) => unreachable!(),
+    }
+}
+
 /// A reader over a postings table that was tested before, and over the lists, without symbols:
 /// nothing but memory can be wanting.
 fn lists_reader<'a>(
@@ -47,6 +63,8 @@ fn lists_reader<'a>(
 ) -> Result<IndexReader<'a>, NoMemory>
     requires table { toc.postings_table + length table.now < 2 ^ 64 }
     requires postings { toc.postings + length postings.now < 2 ^ 64 }
+    requires tested { IsOk (postings_table_at (known
+        (record { begin = toc.postings_table; bytes = table.now })) toc.postings_table) }
     ensures rows { IfOk result (λ reader. 0 < toc.postings_table
         → postings_table_at (known
         (record { begin = toc.postings_table; bytes = table.now })) toc.postings_table
@@ -63,7 +81,7 @@ fn lists_reader<'a>(
     };
     match IndexReader::over(alloc, parts) {
         Ok(reader) => Ok(reader),
-        Err(_) => Err(NoMemory),
+        Err(refusal) => Err(only_memory(refusal)),
     }
 }
 

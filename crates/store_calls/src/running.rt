@@ -1,9 +1,9 @@
 //! A gateway's call, which hands on what it keeps.
 
-ghost use Rattle.std.specs.Prelude.{◌≡◌, ◌||◌, ◌⊎◌, None, IfSome, IsTrue};
+ghost use Rattle.std.specs.Prelude.{None};
 ghost use Rattle.store_ranges.specs.Caches.{held};
-ghost use Rattle.world_core.specs.Keeping.{IsFull};
-ghost use Rattle.world_core.specs.Machines.{Drives, is_driven_full};
+ghost use Rattle.world_core.specs.Machines.{Drives, is_driven_full, is_driven_wanting};
+ghost use Rattle.world_core.specs.Turning.{Turned};
 ghost use Rattle.store_calls.specs.SeriesCalls.{asking};
 ghost use Rattle.store_calls.specs.CallRuns.{CallRun};
 
@@ -37,13 +37,9 @@ pub fn run_call<H: Hand>(
 ) -> Driven<CallLeft>
     ensures run { Drives
         (CallRun view.now (asking selector.now replicas.now low high) (held cache))
-        (H.seat hand.old) None result (H.entries hand.old) (H.entries hand.new) }
-    ensures seat { H.seat hand.new ≡ H.seat hand.old }
-    ensures keeps { H.keeps hand.old hand.new }
-    ensures wanted { IsTrue (H.wanted hand.new)
-        → IsTrue (H.wanted hand.old) ⊎ (result ≡ Driven.NoMemory) }
-    ensures refused { H.refused hand.new ≡ (H.refused hand.old || is_driven_full result) }
-    ensures full { result ≡ Driven.Full → IfSome (H.front hand.new) IsFull }
+        (H.told hand.old).seat None result (H.told hand.old).entries (H.told hand.new).entries }
+    ensures hand { Turned H.told H.keeps hand.old hand.new (is_driven_full result)
+        (is_driven_wanting result) }
 {
     match SeriesCall::start(alloc, view, selector, replicas, low, high, cache) {
         Ok(mut machine) => match drive(&mut machine, hand, None) {

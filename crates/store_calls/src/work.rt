@@ -1,6 +1,8 @@
 //! What a call is at, and what it has of a block so far.
-ghost use Rattle.std.specs.Prelude.{◌+◌, ◌^◌, ◌<◌, ◌≤◌, length};
+ghost use Rattle.std.specs.Prelude.{◌+◌, ◌^◌, ◌<◌, ◌≤◌, length, IsOk};
 ghost use Rattle.index_parts.specs.IndexFile.{least_size};
+ghost use Rattle.index_parts.specs.Parts.{known};
+ghost use Rattle.index_parts.specs.RowsReading.{postings_table_at};
 
 use crate::BlockOutcome;
 use index_parts::ChunkPlace;
@@ -25,12 +27,15 @@ pub(crate) struct SymbolsRead {
     pub(crate) symbols: SymbolTexts,
 }
 
-/// The bytes of the postings table beside the symbols.
+/// The bytes of the postings table, which was tested, beside the symbols.
 #[derive(Drop)]
 pub(crate) struct TablesRead {
     pub(crate) first: SymbolsRead,
     pub(crate) table: Blob,
     ghost fits: { first.places.toc.postings_table + length table < 2 ^ 64 },
+    ghost tested: { IsOk (postings_table_at
+        (known (record { begin = first.places.toc.postings_table; bytes = table }))
+        first.places.toc.postings_table) },
 }
 
 /// The reads of runs of series: the one that is waited for, those behind it, and the series of

@@ -1,4 +1,5 @@
-//! The chunk places that a call takes.
+//! The places of the chunks that a call takes: those of its series that meet its times. They are sorted by where they
+//! stand, as a read tells of a reference alone, and `places_of` finds by halving which series have their chunk there.
 ghost use Rattle.std.specs.Prelude.{◌≡◌, ◌++◌, ◌*◌, ◌<◌, nat_lt, All, IsTrue, OnOk, IfOk};
 ghost use Rattle.std.specs.List.{filter, flat_map};
 ghost use Rattle.std.specs.List.Sorted.{IsPermutation, IsNonDecreasingBy};

@@ -1,16 +1,14 @@
 -- Labels whose texts are looked up and added to a set, one behind another.
 use Rattle.std.proofs.Common.{◌≡◌, ◌≢◌, ◌⊎◌, inl, inr, ℕ, ◌+◌, ◌<◌, ◌≤◌, List, [], ◌∷◌, ◌++◌, length, drop, get_or, Some, None, Result, Ok, Err, refl, sym, ap, ap₂, ◌∙◌, subst, append-nil, arith}
-use Rattle.std.specs.Prelude.{sum_by}
+use Rattle.std.specs.Prelude.{IsOk}
 use Rattle.std.specs.Result.{result_ok}
 use Rattle.std.proofs.lemmas.List.{drop_more, drop_all}
-use Rattle.std.proofs.lemmas.List.Sums.{sum_by-append, sum_by-cons}
 use Rattle.base.specs.Reading.{◌>>=◌}
 use Rattle.base.proofs.Binds.{ok_is}
 use Rattle.label_sets.specs.declared.label.Label.{Label}
 use Rattle.label_sets.specs.declared.label_refusal.LabelRefusal.{LabelRefusal}
 use Rattle.label_sets.specs.Labels.{ComesBefore, added}
 use Rattle.label_sets.proofs.LabelValues.{before_trans, above_nothing}
-use Rattle.index_v2.specs.Budget.{label_bytes}
 use Rattle.index_v2.specs.SeriesLabels.{label_of, labels_of, unplaced, all_unplaced}
 use Rattle.index_v2.proofs.LabelReading.{label_parts, again, moved, one_more, none_more}
 use Rattle.index_v2.proofs.LabelsOwned.{AllBefore, some_bytes, no_value, placed_last}
@@ -33,11 +31,9 @@ up_to : (name : List ℕ) (ls : List Label) (l : Label) → l.name ≡ name → 
 up_to name [] l is all = (inl is, tt)
 up_to name (m ∷ ls) l is all = (inr all.0, up_to name ls l is all.1)
 
-added_last : (ls : List Label) (l : Label) (new : List Label) → AllBefore l.name ls → l.name ≢ [] → l.value ≢ [] → added ls l.name l.value ≡ Ok new → new ≡ ls ++ l ∷ []
+added_last : (ls : List Label) (l : Label) → AllBefore l.name ls → l.name ≢ [] → l.value ≢ [] → added ls l.name l.value ≡ Ok (ls ++ l ∷ [])
 unfolding added
-added_last ls l new all named valued e =
-    let whole : added ls l.name l.value ≡ Ok (ls ++ l ∷ []) = rw (some_bytes l.name named, some_bytes l.value valued, no_value ls l.name all, placed_last ls l all) refl in
-    ok_is {E = LabelRefusal} _ _ (sym e ∙ whole)
+added_last ls l all named valued = rw (some_bytes l.name named, some_bytes l.value valued, no_value ls l.name all, placed_last ls l all) refl
 
 -- ---- the loop over symbol numbers
 
@@ -83,25 +79,26 @@ module _ (symbols : List (List ℕ)) (names values : List ℕ) where
           sym (ap result_ok (far.whole ∙ ap (behind labels)
           (next_pair ∙ none_more symbols before (unplaced name value) (all_unplaced (drop (place + 1) names) (drop (place + 1) values)) e.0 e.1)))
 
-      module _ (label : Label) (new : List Label) (some : Some label ≡ result_ok (label_of symbols before (unplaced name value))) (adds : added labels label.name label.value ≡ Ok new) where
+      module _ (label : Label) (some : Some label ≡ result_ok (label_of symbols before (unplaced name value))) where
         found : label_of symbols before (unplaced name value) ≡ Ok label
         found = read_as (label_of symbols before (unplaced name value)) label some
 
-        pub new_is : new ≡ labels ++ label ∷ []
-        new_is =
+        added_is : added labels label.name label.value ≡ Ok (labels ++ label ∷ [])
+        added_is =
             let is = label_parts symbols before (unplaced name value) label found in
-            added_last labels label new (below before label.name labels is.ascends far.up) (above_nothing before label.name is.ascends) (some-from_long label.value is.some) adds
+            added_last labels label (below before label.name labels is.ascends far.up) (above_nothing before label.name is.ascends) (some-from_long label.value is.some)
 
-        pub named_step : (next : ℕ) → next ≡ place + 1 → AreNamed symbols names values label.name next new
-        named_step next next_is =
+        -- the set has room for it
+        pub has_room : IsOk (added labels label.name label.value)
+        has_room = subst IsOk (sym added_is) refl
+
+        pub named_step : (new : List Label) (next : ℕ) → added labels label.name label.value ≡ Ok new → next ≡ place + 1 → AreNamed symbols names values label.name next new
+        named_step new next adds next_is =
             let is = label_parts symbols before (unplaced name value) label found in
+            let new_is : new ≡ labels ++ label ∷ [] = ok_is {E = LabelRefusal} _ _ (sym adds ∙ added_is) in
             rw (next_is, new_is) (record {
               whole =
                   far.whole ∙ ap (behind labels)
                   (next_pair ∙ one_more symbols before (unplaced name value) (all_unplaced (drop (place + 1) names) (drop (place + 1) values)) label found) ∙ moved _ label labels;
               up = up_to label.name labels label refl (below before label.name labels is.ascends far.up);
             })
-
-pub spent : (labels new : List Label) (label : Label) (left rest most : ℕ) → new ≡ labels ++ label ∷ [] → sum_by label_bytes labels + left ≡ most → rest + (length label.name + length label.value) ≡ left → sum_by label_bytes new + rest ≡ most
-spent labels new label left rest most is so now =
-    omega (arith, ap (sum_by label_bytes) is, sum_by-append label_bytes labels (label ∷ []), sum_by-cons label_bytes label [], so, now)

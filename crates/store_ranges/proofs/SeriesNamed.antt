@@ -1,6 +1,6 @@
 -- A series that is read in a part of an index, by the symbol numbers that stand there.
 use Rattle.std.proofs.Common.{◌≡◌, ℕ, ◌+◌, ◌-◌, ◌*◌, ◌^◌, ◌<◌, ◌≤◌, List, [], length, Option, Some, None, Result, Ok, Err, refl, sym, ap, ap₂, ◌∙◌, arith}
-use Rattle.std.specs.Prelude.{IsErr, IfOk, IfSome, option_map}
+use Rattle.std.specs.Prelude.{IsErr, IfOk, option_map}
 use Rattle.std.specs.Result.{result_ok}
 use Rattle.base.specs.declared.memory.NoMemory.{NoMemory}
 use Rattle.base.specs.Reading.{◌>>=◌, refused_as}
@@ -12,7 +12,6 @@ use Rattle.index_parts.specs.SeriesReading.{series_at}
 use Rattle.index_parts.specs.declared.index_series.IndexSeries.{IndexSeries}
 use Rattle.index_parts.specs.Parts.{Part, known}
 use Rattle.index_parts.proofs.Slices.{IsTold}
-use Rattle.index_v2.specs.Budget.{text_bytes}
 use Rattle.index_v2.specs.Opening.{refused_of}
 use Rattle.index_v2.specs.SeriesLabels.{labels_of, all_unplaced, labelled_at, numbered_at}
 use Rattle.index_v2.proofs.LabelledSeries.{StandsRaw, labelled_parts, raw_stands}
@@ -76,9 +75,3 @@ module _ (here : Part) (symbols : List (List ℕ)) (number : ℕ) (begins : here
       number_found number here.begin _ _ told one (labelled here.bytes symbols (16 * number - here.begin) raw is one named)
   series_named raw is (Ok None) named = refused (not_labelled here.bytes symbols (16 * number - here.begin) raw is named)
   series_named raw is (Err none) named = tt
-
--- a bound that is no greater than another
-pub within : (r : Result (Option IndexSeries) NoMemory) (most more : ℕ) → most ≤ more → IfOk r (λ found. IfSome found (λ one. text_bytes one ≤ most)) → IfOk r (λ found. IfSome found (λ one. text_bytes one ≤ more))
-within (Ok (Some one)) most more le few = omega (arith, le, few)
-within (Ok None) most more le few = tt
-within (Err none) most more le few = tt

@@ -1,20 +1,20 @@
--- Texts that stand among bytes, each from one place up to another.
+-- Texts that stand in one text, each from one place up to another.
 use Rattle.std.specs.Prelude.{◌≡◌, ℕ, ◌-◌, ◌≤◌, List, length, map, take, drop, sum_by}
 use Rattle.std.specs.List.{All}
-use Rattle.std.specs.Str.{IsUtf8}
+use Rattle.std.specs.Str.{IsCharBoundary}
 use Rattle.store_ranges.specs.declared.span.Span.{Span}
 
 abbrev pub text_at : List ℕ → Span → List ℕ
-text_at bytes place = take (place.end - place.start) (drop place.start bytes)
+text_at all place = take (place.end - place.start) (drop place.start all)
 
--- they stand within the bytes, and are UTF-8
+-- they stand within the text, and cut no character
 abbrev pub IsTextAt : List ℕ → Span → Type 0
-IsTextAt bytes place = (place.start ≤ place.end) × (place.end ≤ length bytes) × IsUtf8 (text_at bytes place)
+IsTextAt all place = (place.start ≤ place.end) × IsCharBoundary all place.start × IsCharBoundary all place.end
 
 abbrev pub texts_at : List ℕ → List Span → List (List ℕ)
-texts_at bytes places = map (text_at bytes) places
+texts_at all places = map (text_at all) places
 
--- The bytes have texts at these places, and are no more than these.
-pub record AreTextsAt (bytes : List ℕ) (places : List Span) : Type 0 where
-  pub are_texts : All (IsTextAt bytes) places
-  pub no_more : sum_by length (texts_at bytes places) ≡ length bytes
+-- The text has texts at these places, and is no more than these.
+pub record AreTextsAt (all : List ℕ) (places : List Span) : Type 0 where
+  pub are_texts : All (IsTextAt all) places
+  pub no_more : sum_by length (texts_at all places) ≡ length all

@@ -1,14 +1,12 @@
 //! The labels of a series, by its symbol numbers.
-ghost use Rattle.std.specs.Prelude.{◌≡◌, ◌+◌, ◌≤◌, [], length, sum_by, option_map, IfOk, IfSome, Ok};
+ghost use Rattle.std.specs.Prelude.{◌≡◌, [], length, option_map, IfOk};
 ghost use Rattle.std.specs.Result.{result_ok};
-ghost use Rattle.label_sets.specs.Labels.{added};
-ghost use Rattle.index_v2.specs.Budget.{label_bytes, text_bytes};
 ghost use Rattle.index_v2.specs.SeriesLabels.{label_of, labels_of, unplaced, all_unplaced};
 
 use crate::symbol_texts::SymbolTexts;
 use base::NoMemory;
 use index_parts::RawSeries;
-use index_v2::{IndexSeries, spend};
+use index_v2::{IndexSeries, add_label};
 use label_sets::LabelSet;
 use std::alloc::Global;
 
@@ -34,40 +32,24 @@ fn label_of<'a>(
     }
 }
 
-/// Adds a label to a set, and says what its texts leave of a budget.
-fn add(set: &mut LabelSet, name: &str, value: &str, left: usize) -> Result<usize, NoMemory>
-    ensures adds { IfOk result (λ _. added set.old name.now value.now ≡ Ok set.new) }
-    ensures left { IfOk result (λ rest. rest + (length name.now + length value.now) ≡ left) }
-{
-    let rest = spend(spend(left, name.len())?, value.len())?;
-    match set.add(name, value) {
-        Ok(()) => Ok(rest),
-        Err(_) => Err(NoMemory),
-    }
-}
-
-/// The labels of these symbol numbers, whose texts come to so many bytes at most. None where one of
-/// the numbers is refused.
+/// The labels of these symbol numbers. None where one of the numbers is refused.
 fn labels_of(
     alloc: Global,
     symbols: &SymbolTexts,
     names: &[u64],
     values: &[u64],
-    most: usize,
 ) -> Result<Option<LabelSet>, NoMemory>
     requires { length names.now ≡ length values.now }
-    ensures value { IfOk result
+    ensures { IfOk result
         (λ found. found
         ≡ result_ok (labels_of symbols.now [] (all_unplaced names.now values.now))) }
-    ensures texts { IfOk result (λ found. IfSome found (λ set. sum_by label_bytes set ≤ most)) }
 {
     let mut set = LabelSet::empty(alloc);
-    let mut left = most;
     let mut before = "";
     for place in 0..names.len() {
         match label_of(symbols, before, names[place], values[place]) {
             Some((name, value)) => {
-                left = add(&mut set, name, value, left)?;
+                add_label(&mut set, name, value)?;
                 before = name;
             }
             None => return Ok(None),
@@ -76,26 +58,23 @@ fn labels_of(
     Ok(Some(set))
 }
 
-/// A series with the texts of its symbol numbers, which come to so many bytes at most. None where
-/// one of the numbers is refused.
+/// A series with the texts of its symbol numbers. None where one of the numbers is refused.
 pub fn named_series(
     alloc: Global,
     symbols: &SymbolTexts,
     raw: RawSeries,
-    most: usize,
 ) -> Result<Option<IndexSeries>, NoMemory>
     requires { length raw.names ≡ length raw.values }
-    ensures value { IfOk result (λ found. found
+    ensures { IfOk result (λ found. found
         ≡ option_map (λ labels. record { labels = labels; chunks = raw.chunks })
         (result_ok (labels_of symbols.now [] (all_unplaced raw.names raw.values)))) }
-    ensures texts { IfOk result (λ found. IfSome found (λ one. text_bytes one ≤ most)) }
 {
     let RawSeries {
         names,
         values,
         chunks,
     } = raw;
-    match labels_of(alloc, symbols, names.members(), values.members(), most)? {
+    match labels_of(alloc, symbols, names.members(), values.members())? {
         Some(labels) => Ok(Some(IndexSeries { labels, chunks })),
         None => Ok(None),
     }

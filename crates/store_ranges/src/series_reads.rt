@@ -1,8 +1,7 @@
 //! The series of an index, or of a part of it.
-ghost use Rattle.std.specs.Prelude.{◌≡◌, ◌+◌, ◌*◌, ◌^◌, ◌<◌, ◌≤◌, All, length, sum_by, Ok, IsErr, IfOk, IfSome};
+ghost use Rattle.std.specs.Prelude.{◌≡◌, ◌*◌, ◌^◌, ◌<◌, ◌≤◌, All, length, Ok, IsErr, IfOk, IfSome};
 ghost use Rattle.index_parts.specs.SeriesReading.{series_at};
 ghost use Rattle.index_parts.specs.Parts.{known};
-ghost use Rattle.index_v2.specs.Budget.{text_bytes, text_share};
 ghost use Rattle.index_v2.specs.SeriesLabels.{numbered_at};
 ghost use Rattle.base.specs.Firsts.{each_at};
 ghost use Rattle.index_parts.specs.IndexFile.{series_unit};
@@ -15,7 +14,7 @@ use crate::run_read::RunRead;
 use crate::symbol_texts::SymbolTexts;
 use base::NoMemory;
 use index_parts::{PartRefusal, RawSeries, SERIES_UNIT, read_series};
-use index_v2::{IndexReader, IndexRefusal, IndexSeries, TEXT_SHARE};
+use index_v2::{IndexReader, IndexRefusal, IndexSeries};
 use std::alloc::Global;
 
 /// The series at a place of these bytes, with its symbol numbers. None where it is refused.
@@ -32,18 +31,6 @@ fn raw_at(alloc: Global, bytes: &[u8], at: u64) -> Result<Option<RawSeries>, NoM
     }
 }
 
-/// How many bytes the texts of a series may come to: sixty-four for each byte of the symbols and of
-/// the bytes in which it stands. No series of at most 63 labels comes to more: its names differ, so
-/// that together they are no longer than the symbols, and neither is any of its values.
-fn most_texts(symbols: &SymbolTexts, bytes: &[u8]) -> usize
-    ensures { result ≤ text_share * (sum_by length symbols.now + length bytes.now) }
-{
-    symbols
-        .size()
-        .saturating_add(bytes.len())
-        .saturating_mul(TEXT_SHARE)
-}
-
 /// The series of a number in the bytes of a run. None where it is refused.
 fn series_in(
     alloc: Global,
@@ -54,14 +41,12 @@ fn series_in(
 ) -> Result<Option<IndexSeries>, NoMemory>
     requires begins { run.now.range.from ≤ series_unit * number }
     requires small { number < 2 ^ 32 }
-    ensures reads { IfOk result (ReadsAs (λ one. one)
+    ensures { IfOk result (ReadsAs (λ one. one)
         (numbered_at (known (part_at
         (piece_of run.now.range) bytes.now)) symbols.now number)) }
-    ensures texts { IfOk result (λ found. IfSome found (λ one. text_bytes one ≤ text_share
-        * (sum_by length symbols.now + length bytes.now))) }
 {
     match raw_at(alloc, bytes, SERIES_UNIT * number - run.range.from)? {
-        Some(raw) => named_series(alloc, symbols, raw, most_texts(symbols, bytes)),
+        Some(raw) => named_series(alloc, symbols, raw),
         None => Ok(None),
     }
 }

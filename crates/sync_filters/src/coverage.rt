@@ -1,3 +1,7 @@
+//! Which blocks are superfluous, since another one has all of their sources: the inputs of a compaction until a
+//! cleaning deletes them (Thanos: deduplication filter). To compare each with each would take the square of their
+//! number.
+
 ghost use Rattle.std.specs.Prelude.{◌≡◌, ◌==◌, ◌&&◌, pos, not, map, length, IfOk};
 ghost use Rattle.std.specs.List.{filter, list_any};
 ghost use Rattle.std.specs.List.Sorted.{IsStrictlyIncreasing, IsPermutation, IsNonDecreasingBy, IsSortedBy};

@@ -1,3 +1,6 @@
+//! Blocks under each of their sources, and under a digest of all, so that the few that may cover a block are found by
+//! halving. Whether one does is asked of its sources, so digests that happen to be equal change no answer.
+
 ghost use Rattle.std.specs.Prelude.{◌≡◌, ◌≤◌, ◌-◌, ◌++◌, true, false, length, map, take, drop, IfOk, OnOk, nat_lt, nat_le};
 ghost use Rattle.std.specs.List.Sorted.{IsSortedBy, IsPermutation, IsPartitionPoint};
 ghost use Rattle.sync_filters.specs.Holders.{AreHolders, HasHoldersOf, HasLargerOf, HasLarger, comes_before, compare_holders as order_of_holders, holder, holders_at, is_larger, each_source, digest_alone};

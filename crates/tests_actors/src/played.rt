@@ -1,5 +1,5 @@
 //! A hand that answers by a world, or by replies that are written out, as long as they are such as the operation may have.
-ghost use Rattle.std.specs.Prelude.{◌≡◌, [], ◌∷◌, ◌++◌, IsTrue, IfOk, OnErr};
+ghost use Rattle.std.specs.Prelude.{◌≡◌, [], ◌∷◌, ◌++◌, ◌+◌, IsTrue, IfOk, OnErr};
 ghost use Rattle.world_core.specs.Operations.{IsLawful, IsReplyTo, entry_of};
 
 use crate::replies::Answer;
@@ -17,8 +17,8 @@ const LIMIT: u64 = 0x1_0000_0000_0000;
 #[derive(Drop)]
 pub(crate) struct Played {
     world: World<MemoryBucket>,
-    /// How many entries there were before the first.
-    before: u64,
+    /// The number of the last entry.
+    last: u64,
     /// What answers the next operations.
     waiting: VecDeque<Answer>,
     /// Nothing answers when no reply is waiting.
@@ -29,10 +29,10 @@ pub(crate) struct Played {
 
 impl Played {
     pub(crate) fn new(alloc: Global, world: World<MemoryBucket>) -> Played {
-        let before = world.journal().len();
+        let last = world.journal().len();
         Played {
             world,
-            before,
+            last,
             waiting: VecDeque::new(alloc),
             ends: false,
             entries: Vec::new(alloc),
@@ -59,6 +59,7 @@ impl Played {
         requires { IsLawful op.now }
         ensures entries { self.new.entries.items ≡ self.old.entries.items }
         ensures refused { self.new.refused ≡ self.old.refused }
+        ensures last { self.new.last ≡ self.old.last }
     {
         match self.waiting.pop_front() {
             Some(Answer::Told(ms, reply)) => Acted::Done(Seen {
@@ -78,15 +79,14 @@ impl Played {
 impl Hand for Played {
     ghost use Rattle.std.specs.Prelude.{None, false};
 
-    ghost entries = { λ hand. hand.entries.items };
-
-    ghost seat = { λ hand. 1 };
-
-    ghost front = { λ hand. None };
-
-    ghost refused = { λ hand. hand.refused };
-
-    ghost wanted = { λ hand. false };
+    ghost told = { λ hand. record {
+      entries = hand.entries.items;
+      seat = 1;
+      front = None;
+      known = hand.last;
+      refused = hand.refused;
+      wanted = false;
+    } };
 
     ghost keeps = { λ old new. Unit {0} };
 
@@ -113,35 +113,45 @@ impl Hand for Played {
             drop(reply);
             return Acted::NoMemory;
         }
-        match record(&mut self.entries, self.before, moment, op, reply) {
-            Ok(seen) => Acted::Done(seen),
+        match record(&mut self.entries, self.last, moment, op, reply) {
+            Ok(seen) => {
+                self.last = seen.seq;
+                Acted::Done(seen)
+            }
             Err(NoMemory) => Acted::NoMemory,
         }
     }
+
+    fn look(&mut self) -> u64 {
+        self.last
+    }
 }
 
-/// Adds the entry of an operation, before whose first there were so many.
+/// Adds the entry of an operation, behind one of the number `last`. Where no number is left it lacks memory.
 fn record(
     entries: &mut Vec<Entry>,
-    before: u64,
+    last: u64,
     moment: Moment,
     op: Op,
     reply: Reply,
 ) -> Result<Seen, NoMemory>
     ensures added { IfOk result
         (λ seen. entries.new.items ≡ entries.old.items ++ entry_of 1 op seen ∷ []) }
+    ensures number { IfOk result (λ seen. seen.seq ≡ last + 1) }
     ensures moment { IfOk result (λ seen. seen.moment ≡ moment) }
     ensures reply { IfOk result (λ seen. seen.reply ≡ reply) }
     ensures err { OnErr result (entries.new.items ≡ entries.old.items) }
 {
+    let Some(seq) = last.checked_add(1) else {
+        drop(op);
+        drop(reply);
+        return Err(NoMemory);
+    };
     let Ok(told) = reply.copy() else {
         drop(op);
         drop(reply);
         return Err(NoMemory);
     };
-    let seq = before
-        .saturating_add(entries.len() as u64)
-        .saturating_add(1);
     let pushed = entries.push(Entry {
         seq,
         seat: 1,

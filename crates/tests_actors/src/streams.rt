@@ -107,7 +107,8 @@ pub(crate) fn print_sink(rt: &HostRuntime, text: &str) {
     for piece in pieces.split(' ') {
         show(rt, &sink.write(piece.as_bytes()));
     }
-    show(rt, &sink.bytes());
+    let taken = sink.bytes().unwrap_or(&[]);
+    show(rt, &taken);
     drop(sink);
     say(rt, "");
 }

@@ -60,11 +60,11 @@ impl NotingShelf {
 impl Shelf for NotingShelf {
     ghost use Rattle.std.specs.Prelude.{None, Some};
 
-    ghost files = { λ shelf. None };
-
-    ghost asked = { λ shelf. Some shelf.names };
-
-    ghost faults = { λ shelf. shelf.faults };
+    ghost told = { λ shelf. record {
+      files = None;
+      asked = Some shelf.names;
+      faults = shelf.faults;
+    } };
 
     fn read(&mut self, name: &str) -> ShelfAnswer {
         let Ok(()) = self.note(name) else {

@@ -3,7 +3,7 @@ use crate::says::{put_number, say, say_lines, text_of};
 use crate::setting::Setting;
 use crate::strange_bucket::{StrangeBucket, StrangeSite};
 use crate::told_runs::run_told;
-use crate::tool::add_words;
+use crate::tool::{add_words, written_to};
 use bucket_core::{MemoryShelf, MemorySink, MemorySource};
 use replay_cli::Run;
 use wire_bytes::Blob;
@@ -34,7 +34,7 @@ pub(crate) fn print_run(
     drop(list);
     drop(source);
     drop(site);
-    print_written(rt, run.status, sink.bytes());
+    print_written(rt, run.status, written_to(&sink));
     drop(sink);
     print_shown(rt, &run, shown);
     drop(run);

@@ -72,17 +72,9 @@ fn note(notes: &mut Vec<u8>, kind: &str, name: &str) {
 }
 
 impl Bucket for StrangeBucket {
-    ghost use Rattle.std.specs.Prelude.{None, Some};
-    ghost use Rattle.bucket_core.specs.MemoryBucket.{faults_counted};
-    ghost use Rattle.bucket_core.specs.Noted.{calls_told};
+    ghost use Rattle.tests_runs.specs.Told.{strange_told};
 
-    ghost contents = { λ b. None };
-
-    ghost asked = { λ b. Some (calls_told b.told) };
-
-    ghost faults = { λ b. faults_counted b.inner };
-
-    ghost quiet = { λ b. ⊥ };
+    ghost told = { strange_told };
 
     ghost only_keys = { λ b c key told stands. absurd (Prim.cc told) };
 
@@ -158,15 +150,13 @@ impl Site for StrangeSite {
 
     ghost use Rattle.std.specs.Prelude.{None};
 
-    ghost faults = { λ s. s.faults };
-
-    ghost buckets = { λ s. s.opened };
-
-    ghost shelves = { λ s. 0 };
-
-    ghost next_bucket = { λ s name. None };
-
-    ghost next_shelf = { λ s name. None };
+    ghost told = { λ s. record {
+      buckets = s.opened;
+      bucket_at = λ place name. None;
+      shelves = 0;
+      shelf_at = λ place name. None;
+      faults = s.faults;
+    } };
 
     fn open_bucket(&mut self, _name: &str) -> Result<StrangeBucket, SiteRefusal> {
         if self.setting.site || self.opened == u32::MAX {

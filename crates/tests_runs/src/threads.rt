@@ -9,17 +9,19 @@ mod passes;
 mod phases;
 mod replays;
 mod scripts;
+mod shares;
 mod worlds;
 
 use crate::says::say;
 use crate::threads::passes::passes_share_a_journal;
 use crate::threads::phases::{
-    a_fault_stops_no_other, workers_are_watched, workers_share_a_journal,
+    a_fault_stops_no_other, neighbours_meet, two_are_watched, workers_share_a_journal,
 };
 use crate::threads::replays::{
     Stream, a_fault_stops_one_upload, a_large_answer_is_told, fails_in_turn, uploads_meet,
 };
 use crate::threads::scripts::print_script;
+use crate::threads::shares::places_meet;
 use phase_runner::Open;
 use std::alloc::Global;
 use std::sync::Wait;
@@ -52,9 +54,10 @@ fn is_good<R: Threads + Wait + Sync>(rt: &R, alloc: Global, name: &str) -> bool 
     match name {
         "passes" => passes_share_a_journal(rt, alloc),
         "workers" => workers_share_a_journal(rt, alloc, &Open, 2, 100),
-        "meeting" => workers_are_watched(rt, alloc, true, 2, 5),
-        "five" => workers_are_watched(rt, alloc, true, 5, 5),
-        "numbers" => workers_are_watched(rt, alloc, false, 2, 20),
+        "meeting" => two_are_watched(rt, alloc, true, 5),
+        "five" => neighbours_meet(rt, alloc),
+        "numbers" => two_are_watched(rt, alloc, false, 20),
+        "places" => places_meet(rt),
         "fault" => a_fault_stops_no_other(rt, alloc),
         "uploads" => uploads_meet(rt, alloc),
         "large" => a_large_answer_is_told(rt, alloc),

@@ -20,6 +20,13 @@ pub(crate) struct Ended {
     pub(crate) out: MemorySink,
 }
 
+impl Ended {
+    /// What was written.
+    pub(crate) fn written(&self) -> &[u8] {
+        written_to(&self.out)
+    }
+}
+
 /// Does the call of this name with the words behind it, over a bucket in memory and a shelf of these files. The script has these lines.
 /// What the setting says goes wrong, but this bucket does not lie.
 pub(crate) fn end_over_memory<R: Threads + Wait + Sync, G: Gate + Sync>(
@@ -38,6 +45,11 @@ pub(crate) fn end_over_memory<R: Threads + Wait + Sync, G: Gate + Sync>(
     let ended = end_of(threads, (call, words), &mut site, script, setting, gate);
     drop(site);
     ended
+}
+
+/// What was written to a sink, or that there was no memory to keep it.
+pub(crate) fn written_to(out: &MemorySink) -> &[u8] {
+    out.bytes().unwrap_or(b"no memory".as_slice())
 }
 
 /// Does the call of this name with the words behind it. Of the setting it takes which call of the source and of the sink fails.

@@ -1,5 +1,5 @@
 -- The runs of the script that takes its block from the shelf.
-use Rattle.std.proofs.Common.{◌≡◌, inl, inr, ℕ, ◌+◌, ◌^◌, ◌<◌, List, [], ◌∷◌, length, map, Contains, true, Some, None, refl, sym, ◌∙◌, ap, subst, append-nil, lit<, lit≤}
+use Rattle.std.proofs.Common.{◌≡◌, inl, inr, ℕ, ◌+◌, ◌*◌, ◌^◌, ◌<◌, ◌≤◌, sum_by, List, [], ◌∷◌, length, map, Contains, true, Some, None, refl, sym, ◌∙◌, ap, subst, append-nil, lit<, lit≤}
 use Rattle.std.specs.List.{All, IsDistinct, list_any}
 use Rattle.std.specs.List.Sorted.{IsStrictlySortedBy}
 use Rattle.std.proofs.lemmas.List.Elements.{All-cons, All-from_recursion, All-nil}
@@ -7,6 +7,9 @@ use Rattle.base.specs.FixedDigits.{fixed_digits}
 use Rattle.label_sets.specs.Finals.{is_among, without, final_of}
 use Rattle.label_sets.specs.Ordered.{in_order, placed}
 use Rattle.label_sets.specs.Triples.{Triple, triples_under, has_same_key}
+use Rattle.chunk_files.specs.ChunkReading.{chunk_at, header_at, segment_at}
+use Rattle.wire_bytes.specs.Crc.{crc, remainder}
+use Rattle.wire_bytes.specs.Fields.{bytes_at, groups_of, number_at, uvarint_at}
 use Rattle.matchers.specs.Selected.{is_selected, selected}
 use Rattle.matchers.specs.Selectors.{is_match}
 use Rattle.block_keys.specs.KeyText.{name_of, six_digits}
@@ -16,6 +19,8 @@ use Rattle.block_meta.specs.MetaFields.{fields_of}
 use Rattle.block_meta.specs.MetaValue.{meta_text}
 use Rattle.block_content.specs.Checking.{Passes}
 use Rattle.block_content.specs.Content.{IsContent}
+use Rattle.block_content.specs.ContentReading.{series_bytes}
+use Rattle.block_content.specs.Named.{chunk_share, counted, text_bytes, text_share}
 use Rattle.block_content.specs.Shipped.{names_of, shipped_meta, sizes_of}
 use Rattle.block_content.specs.declared.check_refusal.CheckRefusal.TheVariants.{NoFile}
 use Rattle.world_core.specs.Moments.{moment_after, last_moment}
@@ -46,6 +51,7 @@ use Rattle.tests_worked.proofs.small.BuiltBlock.{bytes, content, index_fits, sam
 use Rattle.tests_worked.proofs.small.Each.{each_of, by_workers_alone}
 use Rattle.tests_worked.proofs.small.Ends.{of_each}
 use Rattle.tests_worked.proofs.one.OneBlock.{uploader}
+use Rattle.tests_worked.proofs.small.SmallIndex.{is_index, listed}
 use Rattle.tests_worked.proofs.small.SmallMeta.{meta_is}
 
 -- ---- what is shipped
@@ -55,11 +61,21 @@ holds =
     let built = content small.a in
     record { indexed = built.indexed; index_is = built.index_is; series_are = built.series_are; within = built.within; apart = built.apart }
 
+-- its one chunk and its one label are little for its bytes
+chunks_few : counted (sum_by (series_bytes (small.segment ∷ [])) (listed ∷ [])) ≤ counted (chunk_share * sum_by length (small.segment ∷ []))
+unfolding files.segment files.chunk files.content segment_at header_at chunk_at bytes_at number_at uvarint_at groups_of crc remainder
+chunks_few = lit≤ tt
+
+texts_few : counted (sum_by text_bytes (listed ∷ [])) ≤ counted (text_share * length small.index)
+unfolding files.index files.symbols files.series files.label_index files.lists files.label_offsets files.table files.contents
+texts_few = lit≤ tt
+
 passes : Passes small.a shelf.files (small.up ∷ [])
 passes = record {
   own = record { ulid_is = refl; first_level = refl; one_source = refl; sampled = refl };
   content = holds;
   some = λ none. cc (none);
+  few = record { indexed = listed ∷ []; index_is = is_index; chunks = chunks_few; texts = texts_few };
 }
 
 said_is : shipped_meta shelf.kept (small.segment ∷ []) small.index [] ≡ fields_of small.said

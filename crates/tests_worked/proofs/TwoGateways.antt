@@ -44,14 +44,12 @@ use Rattle.lifecycle_core.specs.Holdings.{Holdings, none_held, nothing_held}
 use Rattle.lifecycle_core.specs.Phases.{IsRunOf, by_script, by_workers}
 use Rattle.lifecycle_core.specs.Tasks.{End, QueryTask, asks_in, synced, uploaded}
 use Rattle.lifecycle_core.specs.Ways.{PhasesRun}
-use Rattle.call_verdicts.specs.script_running.specs.Outcomes.{IsOutcome, PhasesCame, TasksCame}
-use Rattle.call_verdicts.specs.script_running.specs.declared.outcome.Outcome.{Outcome}
-use Rattle.call_verdicts.specs.script_running.specs.declared.outcome.Outcome.TheVariants as outcome
+use Rattle.call_verdicts.specs.script_running.specs.Outcomes.{IsOutcome, Outcome, PhasesCame, TasksCame}
+use Rattle.call_verdicts.specs.script_running.specs.declared.came.Came.TheVariants as came_to
 use Rattle.call_verdicts.specs.script_running.specs.declared.outcome.QueryOutcome.TheVariants as queries
 use Rattle.call_verdicts.specs.script_running.specs.declared.outcome.SyncOutcome.TheVariants as syncs
-use Rattle.call_verdicts.specs.script_running.specs.declared.outcome.UploadOutcome.TheVariants as uploads
-use Rattle.call_verdicts.specs.script_running.specs.declared.part.Part.TheVariants as part
-use Rattle.call_verdicts.specs.script_running.specs.declared.part.QueryPart.TheVariants as gave
+use Rattle.call_verdicts.specs.script_running.specs.declared.came.Stop.TheVariants as stops
+use Rattle.call_verdicts.specs.script_running.specs.declared.outcome.QueryPart.TheVariants as gave
 use Rattle.call_verdicts.specs.report_lines.specs.Reports.{upload_words, sync_words, source_line, series_line, counts_text, answer_text, parted_text, named_lines, named_line, named_count, query_text, activity_text}
 use Rattle.call_verdicts.specs.Verdicts.{IsReport}
 use Rattle.call_verdicts.specs.report_lines.specs.Telling.{report_of}
@@ -331,14 +329,14 @@ given = record {
 -- ---- the report
 
 abbrev answered_so : Outcome
-answered_so = outcome.Query (queries.Answer small_answer (record { gateway = 0; sources = small.a ∷ [] } ∷ record { gateway = 1; sources = small.a ∷ [] } ∷ []))
+answered_so = came_to.Query (queries.Answer small_answer (record { gateway = 0; sources = small.a ∷ [] } ∷ record { gateway = 1; sources = small.a ∷ [] } ∷ []))
 
 both_out : IsOutcome query_task.work (two.answer_by two.used_by_g ∷ two.answer_by two.used_by_h ∷ []) answered_so
 both_out = (
-  part.Query (gave.Answer small_answer) ∷ part.Query (gave.Answer small_answer) ∷ [],
+  came_to.Query (gave.Answer small_answer two.used_by_g.view.first) ∷ came_to.Query (gave.Answer small_answer two.used_by_h.view.first) ∷ [],
   (refl, (refl, tt)),
   (
-    gave.Answer small_answer ∷ gave.Answer small_answer ∷ [],
+    gave.Answer small_answer two.used_by_g.view.first ∷ gave.Answer small_answer two.used_by_h.view.first ∷ [],
     queries.Answer small_answer (record { gateway = 0; sources = small.a ∷ [] } ∷ record { gateway = 1; sources = small.a ∷ [] } ∷ []),
     refl,
     (refl, record { merged = merge_both; sources = refl }, refl),
@@ -347,9 +345,9 @@ both_out = (
 )
 
 abbrev outcomes : List Outcome
-outcomes = outcome.Upload (uploads.Done 3) ∷ outcome.Sync (syncs.Blocks 1) ∷ outcome.Sync (syncs.Blocks 1) ∷ answered_so ∷ []
+outcomes = came_to.Upload (stops.Ended (shipped.Done 3)) ∷ came_to.Sync (syncs.Blocks 1) ∷ came_to.Sync (syncs.Blocks 1) ∷ answered_so ∷ []
 
-first_came : TasksCame two.script (uploader ∷ []) first_ends 0 two.first_tasks (outcome.Upload (uploads.Done 3) ∷ [])
+first_came : TasksCame two.script (uploader ∷ []) first_ends 0 two.first_tasks (came_to.Upload (stops.Ended (shipped.Done 3)) ∷ [])
 unfolding hands_of_task
 first_came = (
   record {
@@ -360,7 +358,7 @@ first_came = (
   refl,
 )
 
-second_came : TasksCame two.script (g ∷ h ∷ []) second_ends 0 two.second_tasks (outcome.Sync (syncs.Blocks 1) ∷ outcome.Sync (syncs.Blocks 1) ∷ answered_so ∷ [])
+second_came : TasksCame two.script (g ∷ h ∷ []) second_ends 0 two.second_tasks (came_to.Sync (syncs.Blocks 1) ∷ came_to.Sync (syncs.Blocks 1) ∷ answered_so ∷ [])
 unfolding hands_of_task
 second_came = (
   record {
@@ -387,15 +385,15 @@ second_came = (
 
 came : PhasesCame two.script 0 two.script.phases two.ends outcomes
 came = (
-  outcome.Upload (uploads.Done 3) ∷ [],
-  outcome.Sync (syncs.Blocks 1) ∷ outcome.Sync (syncs.Blocks 1) ∷ answered_so ∷ [],
+  came_to.Upload (stops.Ended (shipped.Done 3)) ∷ [],
+  came_to.Sync (syncs.Blocks 1) ∷ came_to.Sync (syncs.Blocks 1) ∷ answered_so ∷ [],
   refl,
-  subst (λ (ws : List Worker). TasksCame two.script ws first_ends 0 two.first_tasks (outcome.Upload (uploads.Done 3) ∷ [])) (sym first_workers) first_came,
+  subst (λ (ws : List Worker). TasksCame two.script ws first_ends 0 two.first_tasks (came_to.Upload (stops.Ended (shipped.Done 3)) ∷ [])) (sym first_workers) first_came,
   (
-    outcome.Sync (syncs.Blocks 1) ∷ outcome.Sync (syncs.Blocks 1) ∷ answered_so ∷ [],
+    came_to.Sync (syncs.Blocks 1) ∷ came_to.Sync (syncs.Blocks 1) ∷ answered_so ∷ [],
     [],
     refl,
-    subst (λ (ws : List Worker). TasksCame two.script ws second_ends 0 two.second_tasks (outcome.Sync (syncs.Blocks 1) ∷ outcome.Sync (syncs.Blocks 1) ∷ answered_so ∷ [])) (sym second_workers) second_came,
+    subst (λ (ws : List Worker). TasksCame two.script ws second_ends 0 two.second_tasks (came_to.Sync (syncs.Blocks 1) ∷ came_to.Sync (syncs.Blocks 1) ∷ answered_so ∷ [])) (sym second_workers) second_came,
     (refl, refl),
   ),
 )

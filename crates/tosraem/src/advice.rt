@@ -46,7 +46,7 @@ fn advice(status: Status) -> &'static str
             "The report goes to standard output: see that its reader stays and that there is room for it, and run again.\n"
         }
         Status::NoMemory => {
-            "There was not enough memory, or a block's index names far more than its files hold: run again where there is more memory, or mend the block.\n"
+            "There was not enough memory: run again where there is more of it.\n"
         }
         Status::BucketNotEmpty => {
             "A run begins with an empty bucket, and this folder holds something: name a new one. (BUCKET comes first, SHELF second.)\n"

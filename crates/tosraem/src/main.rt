@@ -1,17 +1,13 @@
 //! The program: it makes the real things, and the tool does the rest.
 #![tactic(auto)]
 
-ghost use Rattle.std.specs.Prelude.{◌≡◌, ◌≢◌, true, false, None, IsSome, is_some};
-ghost use Rattle.replay_cli.specs.lifecycle_core.specs.InLine.{IsInLine};
-ghost use Rattle.replay_cli.specs.call_verdicts.specs.Asked.{IsBucketAsked};
-ghost use Rattle.replay_cli.specs.InPhases.{IsInPhases};
-ghost use Rattle.replay_cli.specs.call_verdicts.specs.Kept.{IsHandedBack, IsHandedOut, IsNotAsked, IsShelfOf};
-ghost use Rattle.replay_cli.specs.call_verdicts.specs.Noted.{IsNoted, met, met_alone};
-ghost use Rattle.replay_cli.specs.call_verdicts.specs.Verdicts.{IsCaused, around_call, saying_to};
-ghost use Rattle.replay_cli.specs.call_verdicts.specs.Words.{block_word, bucket_word, number_word, replay_shelf, replay_word, shelf_word};
-ghost use Rattle.replay_cli.specs.Days.{IsDayNoted, IsToolCaused};
-ghost use Rattle.replay_cli.specs.call_verdicts.specs.declared.verdict.Verdict.TheVariants.{NoMemory};
-ghost use Rattle.tosraem.specs.Calls.{IsServed, names_replay};
+ghost use Rattle.std.specs.Prelude.{◌≡◌, true, false};
+ghost use Rattle.replay_cli.specs.call_verdicts.specs.Outside.{outside, site_call};
+ghost use Rattle.replay_cli.specs.call_verdicts.specs.Verdicts.{saying_to};
+ghost use Rattle.replay_cli.specs.call_verdicts.specs.Words.{number_word, replay_names, serial_names};
+ghost use Rattle.replay_cli.specs.Promises.{Serves, ServesTool, call_of};
+ghost use Rattle.replay_cli.specs.Ways.{beside};
+ghost use Rattle.tosraem.specs.Calls.{names_replay};
 
 mod advice;
 mod room;
@@ -50,7 +46,7 @@ fn main(rt: HostRuntime) -> ExitCode {
 }
 
 /// Does what the words ask for: with threads where they name a replay, and else one task after another. It hands back the run that
-/// the call made, and says once more what comes of its verdict. What else that call promises of a run stands in its own clauses.
+/// the call made, and promises all that this call promises.
 fn run<S: Site, R: Source, K: Sink, T: Threads + Wait + Sync>(
     threads: &T,
     alloc: Global,
@@ -61,51 +57,16 @@ fn run<S: Site, R: Source, K: Sink, T: Threads + Wait + Sync>(
 ) -> Run<S::Store, S::Files>
 where
     S::Store: Send,
-    ensures serial { names_replay words.now ≡ false → IsServed
-        (IsToolCaused (number_word words.now)
-        (around_call IsInLine R.left R.faults script.old script.new
-        S.buckets S.next_bucket S.shelves S.next_shelf S.faults
-        (bucket_word words.now) (shelf_word words.now)
-        (block_word words.now) site.old site.new S.Store.faults S.Files.faults
-        result.store result.shelf result.journal))
-        (saying_to K.faults K.written out.old out.new)
-        (λ verdict. verdict ≢ NoMemory
-        → IsBucketAsked S.Store.asked verdict result.journal result.store)
-        (λ verdict. (number_word words.now ≡ None
-        → IsNoted met S.Store.asked verdict result.journal result.store result.note)
-        × (IsSome (number_word words.now) → IsDayNoted verdict result.journal result.day))
-        result.status }
-    ensures replay { names_replay words.now ≡ true → IsServed
-        (IsCaused (around_call IsInPhases R.left R.faults script.old script.new
-        S.buckets S.next_bucket S.shelves S.next_shelf S.faults
-        (replay_word words.now) (replay_shelf words.now)
-        None site.old site.new S.Store.faults S.Files.faults
-        result.store result.shelf result.journal))
-        (saying_to K.faults K.written out.old out.new)
-        (λ verdict. verdict ≢ NoMemory
-        → IsBucketAsked S.Store.asked verdict result.journal result.store)
-        (λ verdict. IsNoted met_alone S.Store.asked verdict result.journal result.store result.note)
-        result.status }
-
-    // There is the note of a generated day only where the words name one.
-    ensures no_day { names_replay words.now ≡ false → number_word words.now ≡ None
-        → result.day ≡ None }
-    ensures day_alone { names_replay words.now ≡ true → result.day ≡ None }
-
-    // The bucket and the shelf are those of that call, as it left them; a generated day has a bucket of its own.
-    ensures handed { IsHandedOut S.buckets site.old site.new result.store }
-    ensures kept { number_word words.now ≡ None
-        → is_some result.journal ≡ is_some result.store }
-    ensures back { number_word words.now ≡ None
-        → IsHandedBack S.Store.contents S.Store.faults result.journal result.store }
-    ensures closed { bucket_word words.now ≡ None → replay_word words.now ≡ None
-        → IsNotAsked S.buckets S.next_bucket site.old site.new }
-    ensures shelf { names_replay words.now ≡ false
-        → IsShelfOf S.shelves S.next_shelf S.Files.files (shelf_word words.now)
-        site.old site.new result.shelf }
-    ensures lent { names_replay words.now ≡ true
-        → IsShelfOf S.shelves S.next_shelf S.Files.files (replay_shelf words.now)
-        site.old site.new result.shelf }
+    ensures serial { names_replay words.now ≡ false
+        → ServesTool (number_word words.now) (serial_names words.now)
+        (call_of (outside (R.told script.old) (R.told script.new)
+        (site_call (S.told site.old) (S.told site.new) S.Store.told S.Files.told))
+        (saying_to (K.told out.old) (K.told out.new)) result) }
+    ensures replay { names_replay words.now ≡ true
+        → Serves beside (replay_names words.now)
+        (call_of (outside (R.told script.old) (R.told script.new)
+        (site_call (S.told site.old) (S.told site.new) S.Store.told S.Files.told))
+        (saying_to (K.told out.old) (K.told out.new)) result) }
 {
     if asks_for_threads(words) {
         run_replay(

@@ -1,3 +1,6 @@
+//! The alphabet of ULIDs: digits and upper-case letters without I, L, O and U. Lower case is refused, so that a ULID
+//! has one text and a block one folder in its bucket.
+
 ghost use Rattle.std.specs.Prelude.{◌≡◌, ◌≤◌, ◌<◌, ◌^◌, None, Some, IsSome, IfOk, length, slice_index};
 ghost use Rattle.std.specs.Str.{byte};
 ghost use Rattle.ulid_core.specs.UlidText as words;

@@ -1,3 +1,6 @@
+//! The name of a block: the millisecond in which it was made, and 80 bits that are random where a server made it. The
+//! greatest of each millisecond are kept for compacted blocks, so that these never share a name with a script's block.
+
 ghost use Rattle.std.specs.Prelude.{◌≡◌, ◌≢◌, ◌↔◌, ℕ, ◌+◌, ◌*◌, ◌/◌, ◌%◌, ◌<◌, ◌++◌, length, slice_index, Some, None, Ok, Err, IfOk, OnOk, OnErr};
 ghost use Rattle.std.specs.Str.{byte};
 ghost use Rattle.std.specs.String.{string_bytes};

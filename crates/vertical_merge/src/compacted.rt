@@ -1,3 +1,6 @@
+//! The meta of a compacted block but for its counts, told by the metas of its inputs alone. By its sources, which are
+//! those of all inputs, every later sync tells that it covers them.
+
 ghost use Rattle.std.specs.Prelude.{◌≡◌, ◌≤◌, ◌∷◌, map, length, IfOk};
 ghost use Rattle.std.specs.Int.{int_min};
 ghost use Rattle.vertical_merge.specs.Compacted.{IsCompactedPlan, IsLeast, IsGreatest, IsGreatestLevel, parent_of as to_parent};

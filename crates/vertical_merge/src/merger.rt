@@ -1,3 +1,6 @@
+//! The merge of series from several places: of the samples of one label set at one time the first that was added stays,
+//! so whoever adds decides which block or which gateway goes before. It serves calls, queries and compactions alike.
+
 ghost use Rattle.std.specs.Prelude.{◌≡◌, ◌≢◌, [], ◌++◌, ◌∷◌, List, map, All, IfOk, OnOk, OnErr, IsTrue, ◌↔◌, fold};
 ghost use Rattle.std.specs.List.Sorted.{IsSortedBy, IsStableBy};
 ghost use Rattle.base.specs.Lists.{joined as all_of};

@@ -33,7 +33,7 @@ pub(crate) fn first_of_parts(parts: Vec<SampleList>) -> Result<SampleList, NoMem
     Ok(SampleList::from_vec(made))
 }
 
-/// The same of one part, or of none.
+/// The samples of one part, or of none, in the order of their times, of those at one time the first.
 fn first_of_last(parts: Vec<SampleList>) -> Result<SampleList, NoMemory>
     requires { length parts.items ≤ 1 }
     ensures { IfOk result (λ made. made ≡ first_samples (all_of parts.items)) }
@@ -57,7 +57,8 @@ fn first_samples(samples: SampleList) -> Result<SampleList, NoMemory>
     Ok(SampleList::from_vec(made))
 }
 
-/// The same of a slice. It is cut where the times fall, so that no part that ascends is cut, and the cuts lie near the middle.
+/// The samples of a slice in the order of their times, of those at one time the first. It is cut where the times fall, so that no
+/// part that ascends is cut, and the cuts lie near the middle.
 fn merged_samples(alloc: Global, samples: &[Sample]) -> Result<Vec<Sample>, NoMemory>
     ensures { IfOk result (λ made. made.items ≡ first_samples samples.now) }
 {

@@ -1,3 +1,6 @@
+//! Bits of a chunk's XOR data. Those that come next wait in a word, so that mostly shifts alone take them and the bytes
+//! are seldom looked at: all samples of all chunks are decoded through it.
+
 ghost use Rattle.std.specs.Prelude.{◌≡◌, ◌↔◌, ◌*◌, ◌-◌, ◌^◌, ◌<◌, ◌≤◌, ◌++◌, min, length, IsErr, IfOk, OnErr};
 ghost use Rattle.wire_bytes.specs.Bits.{bits_of, bits_in};
 ghost use Rattle.wire_bytes.specs.Buffer.{Shows, peek_limit};

@@ -1,3 +1,6 @@
+//! Bits of a chunk's XOR data, gathered in a word until it is full. Each put makes room for the last word too, so that
+//! finishing takes no memory and cannot fail.
+
 ghost use Rattle.std.specs.Prelude.{◌≡◌, ◌≤◌, [], ◌++◌, OnOk, OnErr};
 ghost use Rattle.base.specs.Grammar.{IsBytes};
 ghost use Rattle.wire_bytes.specs.Bits.{bits_of, bits_in, filled};

@@ -1,24 +1,25 @@
+//! The bytes of an object on their way from a block's writer through a bucket and its journal to a reader. Copies count
+//! owners, so that a segment stands in memory once, however often it is put, kept and read.
+
 ghost use Rattle.std.specs.Prelude.{◌≡◌, List, ℕ, take, drop, IfOk};
-ghost use Rattle.std.specs.Arc.{arc_value};
 ghost use Rattle.wire_bytes.specs.Kept.{kept_bytes};
 
 use base::{List, NoMemory, TryCopy};
+use bytes::Bytes;
 use std::alloc::Global;
 use std::marker::Model;
-use std::sync::Arc;
 
-/// Bytes that have one owner, or whose owners are counted: all of them, or those from a place on, at most so many.
+/// Bytes that have one owner, or whose owners are counted.
 #[derive(Drop)]
 enum Kept {
     Alone(Vec<u8>),
-    Shared(Arc<Vec<u8>>),
-    Part(Arc<Vec<u8>>, u64, u64),
+    Shared(Bytes),
 }
 
 /// Bytes that are kept, such as an object's content.
 ///
-/// A blob made by `from_bytes`, `shared` or `copy` shares its bytes with its copies, and with its parts unless it is one; a copy
-/// of one made by `from_vec` takes bytes of its own. Shared bytes are kept as long as one blob has them, or a part of them.
+/// A blob made by `from_bytes`, `shared`, `part` or `copy` shares its bytes with its copies and its parts; a copy of one made by
+/// `from_vec` takes bytes of its own. Shared bytes are kept as long as one blob has them, or a part of them.
 #[derive(Drop)]
 pub struct Blob {
     kept: Kept,
@@ -47,7 +48,7 @@ impl Blob {
         }
     }
 
-    /// The same bytes, which copies share from here on. The room that a vector had beside them is given back.
+    /// The blob with its owners counted: copies share its bytes from here on. The room that a vector had beside them is given back.
     pub fn shared(self) -> Result<Self, NoMemory>
         ensures { IfOk result (λ blob. blob ≡ self) }
     {
@@ -58,19 +59,20 @@ impl Blob {
         Ok(Blob { kept })
     }
 
-    /// The bytes from a place on, at most `len` of them. Of a part they are copied.
+    /// The bytes from a place on, at most `len` of them.
     pub fn part(&self, from: u64, len: u64) -> Result<Self, NoMemory>
         ensures { IfOk result (λ blob. blob ≡ take len (drop from self.now)) }
     {
         match &self.kept {
-            Kept::Shared(bytes) => Ok(Blob {
-                kept: Kept::Part(Arc::try_clone(bytes)?, from, len),
-            }),
             Kept::Alone(bytes) => {
                 Blob::from_bytes(*bytes.allocator(), range_in(bytes.as_slice(), from, len))
             }
-            Kept::Part(bytes, _, _) => {
-                Blob::from_bytes(*bytes.allocator(), range_in(self.bytes(), from, len))
+            Kept::Shared(bytes) => {
+                let start = (from as usize).min(bytes.len());
+                let count = (len as usize).min(bytes.len() - start);
+                Ok(Blob {
+                    kept: Kept::Shared(bytes.slice(start..start + count)?),
+                })
             }
         }
     }
@@ -82,7 +84,6 @@ impl Blob {
         match &self.kept {
             Kept::Alone(bytes) => bytes.as_slice(),
             Kept::Shared(bytes) => bytes.as_slice(),
-            Kept::Part(bytes, from, len) => range_in(bytes.as_slice(), *from, *len),
         }
     }
 }
@@ -98,11 +99,14 @@ pub fn range_in(bytes: &[u8], from: u64, len: u64) -> &[u8]
 }
 
 /// Counts the owners of bytes from here on.
-fn share(mut bytes: Vec<u8>) -> Result<Arc<Vec<u8>>, NoMemory>
-    ensures { IfOk result (λ shared. (arc_value shared).items ≡ bytes.items) }
+fn share(mut bytes: Vec<u8>) -> Result<Bytes, NoMemory>
+    ensures { IfOk result (λ shared. shared ≡ bytes.items) }
 {
     bytes.shrink_to_fit();
-    Ok(Arc::new(*bytes.allocator(), bytes)?)
+    match Bytes::from_vec(bytes) {
+        Ok(shared) => Ok(shared),
+        Err(_) => Err(NoMemory),
+    }
 }
 
 impl TryCopy for Blob {
@@ -110,10 +114,7 @@ impl TryCopy for Blob {
         match &self.kept {
             Kept::Alone(bytes) => Blob::from_bytes(*bytes.allocator(), bytes.as_slice()),
             Kept::Shared(bytes) => Ok(Blob {
-                kept: Kept::Shared(Arc::try_clone(bytes)?),
-            }),
-            Kept::Part(bytes, from, len) => Ok(Blob {
-                kept: Kept::Part(Arc::try_clone(bytes)?, *from, *len),
+                kept: Kept::Shared(bytes.clone()?),
             }),
         }
     }

@@ -1,3 +1,6 @@
+//! CRC-32C, which guards each section of an index and each chunk of a segment. Sixteen bytes a turn go through tables,
+//! and of a turn's steps only the last one waits for the turn before.
+
 ghost use Rattle.std.specs.Prelude.{◌≡◌, ◌+◌, ◌*◌, ◌/◌, ◌%◌, ◌^◌, ◌<◌, ◌≤◌, length, bit_xor};
 ghost use Rattle.std.specs.Int.{w32, from_le_bytes};
 ghost use Rattle.wire_bytes.specs.Crc.{times_x_to, remainder, crc};

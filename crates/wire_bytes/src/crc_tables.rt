@@ -1,3 +1,6 @@
+//! The tables of CRC-32C, written out so that no run has to make them. None of them is taken on trust: a proof computes
+//! every entry anew from the polynomial.
+
 /// What sixteen bytes a turn need: at `256 * slice + byte`, the byte times the power `8 * (slice + 1)` of x.
 pub const TABLES: [u32; 4096] = [
     0x00000000, 0xf26b8303, 0xe13b70f7, 0x1350f3f4, 0xc79a971f, 0x35f1141c, 0x26a1e7e8, 0xd4ca64eb,

@@ -1,3 +1,6 @@
+//! The reader under all formats of a block: indexes, segments and the heads of chunks are read through it, field by
+//! field. A refusal leaves it where it stood, so that whoever reads knows at which place the field was bad.
+
 ghost use Rattle.std.specs.Prelude.{◌≡◌, ◌≤◌, ◌<◌, ◌++◌, ◌↔◌, length, Err, IfOk, ℕ, ℤ};
 ghost use Rattle.std.specs.Int.{w8, w16, w32, w64};
 ghost use Rattle.base.specs.Grammar.{IsBytes};

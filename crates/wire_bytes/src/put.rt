@@ -1,3 +1,6 @@
+//! The writer under all formats of a block, the other side of `cursor`: fields are appended whole or, where memory is
+//! lacking, not at all, so that a writer is never left with half of one.
+
 ghost use Rattle.std.specs.Prelude.{◌≡◌, ◌+◌, ◌%◌, ◌^◌, ◌<◌, ◌++◌, ◌∷◌, [], ◌≤◌, List, length, take, OnOk, OnErr, ℕ, ℤ};
 ghost use Rattle.std.specs.Int.{w16, w32, w64, to_be_bytes};
 ghost use Rattle.wire_bytes.specs.Fields.{zigzag, group_base};

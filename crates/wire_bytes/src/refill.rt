@@ -1,3 +1,6 @@
+//! How the word of a bit reader is filled anew: by one load of eight bytes while so many are left, and byte by byte at
+//! the end. The fast way stands inside the loops that decode, so the slow one is kept out of it.
+
 ghost use Rattle.std.specs.Prelude.{◌≡◌, ◌+◌, ◌<◌, ◌≤◌, [], length, ◌⊎◌};
 ghost use Rattle.wire_bytes.specs.Buffer.{IsBuffer, buffered, peek_limit};
 

@@ -1,3 +1,6 @@
+//! How bits leave a bit reader. Mostly they wait in its word or come with the next eight bytes: both ways stand inside
+//! the loops that decode. What is left at the end of the data goes through calls.
+
 ghost use Rattle.std.specs.Prelude.{◌≡◌, ◌↔◌, ◌^◌, ◌<◌, ◌≤◌, ◌++◌, length, IsNone, IfSome};
 ghost use Rattle.wire_bytes.specs.Bits.{bits_of};
 ghost use Rattle.wire_bytes.specs.Buffer.{IsBuffer, buffered};

@@ -1,3 +1,6 @@
+//! Numbers in base 128, the lowest seven bits first, as Go writes them and so Prometheus does; signed ones by their
+//! place in the order 0, -1, 1, -2, 2. Most have one to three bytes, so these are read without a loop.
+
 ghost use Rattle.std.specs.Prelude.{◌≡◌, ◌≤◌, ◌<◌, ◌^◌, ◌*◌, ◌+◌, drop, Ok, suc, length, take, IfOk, IfSome, ℕ, ℤ};
 ghost use Rattle.base.specs.Reading.{Answers};
 ghost use Rattle.wire_bytes.specs.Fields.{groups_of, field_value, zigzag, unzigzag, group_base, group_count, low_group_count};

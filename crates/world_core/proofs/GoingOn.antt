@@ -8,6 +8,7 @@ use Rattle.world_core.specs.declared.act.Acted.TheVariants.{Done, Full, NoMemory
 use Rattle.world_core.specs.declared.entry.Entry.{Entry}
 use Rattle.world_core.specs.declared.op.Op.{Op}
 use Rattle.world_core.proofs.Growing.{failed_more}
+use Rattle.bucket_core.specs.Told.{BucketTold}
 
 failed_by : (journal : List Entry) (seat : ℕ) (op : Op) (acted : Acted) → failed_count (journal ++ gained seat op acted) ≡ failed_count journal + cond (is_failed acted) 1 0
 failed_by journal seat op (Done seen) = failed_more journal (entry_of seat op seen)
@@ -31,9 +32,9 @@ more_failed : (failed : Bool) (before after : ℕ) → after ≡ before + cond f
 more_failed true before after counted = omega (arith, counted)
 more_failed false before after counted = omega (arith, counted)
 
-pub acted_goes_on : {B : Type 0} (faults : B → ℕ) (quiet : B → Type 0) (old new : WorldView B) (seat : ℕ) (op : Op) (acted : Acted) → new.journal ≡ old.journal ++ gained seat op acted → new.tick ≡ old.tick
-    → faults old.bucket ≤ faults new.bucket → (is_failed acted ≡ false → faults new.bucket ≡ faults old.bucket) → (quiet old.bucket → quiet new.bucket × IfDone acted (λ seen. has_failed seen.reply ≡ false)) → WorldGoesOn faults quiet old new
-acted_goes_on faults quiet old new seat op acted added tick later only calm =
+pub acted_goes_on : {B : Type 0} (tells : B → BucketTold) (old new : WorldView B) (seat : ℕ) (op : Op) (acted : Acted) → new.journal ≡ old.journal ++ gained seat op acted → new.tick ≡ old.tick
+    → (tells old.bucket).faults ≤ (tells new.bucket).faults → (is_failed acted ≡ false → (tells new.bucket).faults ≡ (tells old.bucket).faults) → ((tells old.bucket).quiet → (tells new.bucket).quiet × IfDone acted (λ seen. has_failed seen.reply ≡ false)) → WorldGoesOn tells old new
+acted_goes_on tells old new seat op acted added tick later only calm =
     let counted : failed_count new.journal ≡ failed_count old.journal + cond (is_failed acted) 1 0 = ap failed_count added ∙ failed_by old.journal seat op acted in
     record {
       tick = tick;

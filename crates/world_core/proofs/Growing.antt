@@ -4,6 +4,7 @@ use Rattle.std.specs.List.{count_by}
 use Rattle.std.proofs.lemmas.List.Sums.{fold-append, sum_by-append, count_by-le-length}
 use Rattle.bucket_core.specs.Causes.{Rose}
 use Rattle.bucket_core.specs.Contents.{Contents, nothing}
+use Rattle.bucket_core.specs.Told.{BucketTold}
 use Rattle.world_core.specs.Operations.{IsLawful, IsReplyTo, PutsBytes, ShowsBytes, has_failed, entry_of}
 use Rattle.world_core.specs.Journals.{Each}
 use Rattle.world_core.specs.Moments.{moment_after, last_moment}
@@ -78,15 +79,15 @@ still_true : (old new : Option Contents) (entries : List Entry) → IfSome old (
 still_true None new entries is_true left = rw left tt
 still_true (Some c) new entries is_true left = rw left is_true
 
-module _ {B : Type 0} (contents : B → Option Contents) (faults : B → ℕ) (old_bucket new_bucket : B) (old new : List Entry) (tick last kept moment size : ℕ) (seat : ℕ) (op : Op) (seen : Seen) where
+module _ {B : Type 0} (tells : B → BucketTold) (old_bucket new_bucket : B) (old new : List Entry) (tick last kept moment size : ℕ) (seat : ℕ) (op : Op) (seen : Seen) where
   -- a world after one more entry
-  pub sound_more : IsCountedWorld contents faults old_bucket old tick last kept → length old < 1048576 → IsLawful op → IsReplyTo op seen.reply → PutsBytes op → ShowsBytes seen.reply → seen.seq ≡ length old + 1 → seen.moment.ms ≡ moment → moment ≡ moment_after tick (last_moment old) op → moment < 2 ^ 48 → size ≡ min (min (kept + bytes_put op) 18446744073709551615 + min (bytes_told seen.reply) 18446744073709551615) 18446744073709551615 → faults old_bucket ≤ faults new_bucket → (IsTrue (has_failed seen.reply) → Rose (faults old_bucket) (faults new_bucket)) → IfSome (contents old_bucket) (λ c. Tells c op seen.reply) → contents new_bucket ≡ option_map (left_by op seen.reply) (contents old_bucket) → new ≡ old ++ entry_of seat op seen ∷ [] → IsCountedWorld contents faults new_bucket new tick moment size
+  pub sound_more : IsCountedWorld tells old_bucket old tick last kept → length old < 1048576 → IsLawful op → IsReplyTo op seen.reply → PutsBytes op → ShowsBytes seen.reply → seen.seq ≡ length old + 1 → seen.moment.ms ≡ moment → moment ≡ moment_after tick (last_moment old) op → moment < 2 ^ 48 → size ≡ min (min (kept + bytes_put op) 18446744073709551615 + min (bytes_told seen.reply) 18446744073709551615) 18446744073709551615 → (tells old_bucket).faults ≤ (tells new_bucket).faults → (IsTrue (has_failed seen.reply) → Rose (tells old_bucket).faults (tells new_bucket).faults) → IfSome (tells old_bucket).contents (λ c. Tells c op seen.reply) → (tells new_bucket).contents ≡ option_map (left_by op seen.reply) (tells old_bucket).contents → new ≡ old ++ entry_of seat op seen ∷ [] → IsCountedWorld tells new_bucket new tick moment size
   sound_more sound few lawful kind puts shows seq is_moment follows small is_size later cause told left added =
       let e = entry_of seat op seen in
       let longer = length-append old (e ∷ []) in
       let counted = sound.counted in
       let journal = sound.world.journal in
-      subst (λ entries. IsCountedWorld contents faults new_bucket entries tick moment size) (sym added)
+      subst (λ entries. IsCountedWorld tells new_bucket entries tick moment size) (sym added)
       (record {
         counted = record {
           short = counted.short;
@@ -104,22 +105,22 @@ module _ {B : Type 0} (contents : B → Option Contents) (faults : B → ℕ) (o
             small = Each-push (λ before x. x.moment.ms < 2 ^ 48) old e journal.small (omega arith);
           };
           bytes = Each-push (λ before x. PutsBytes x.op × ShowsBytes x.reply) old e sound.world.bytes (puts, shows);
-          failures = let f = count_failed (has_failed seen.reply) (faults old_bucket) (faults new_bucket) (count_by (λ x. has_failed x.reply) old) later cause sound.world.failures (omega (arith, count_by-le-length (λ x. has_failed x.reply) old)) in omega (arith, f, failed_more old e);
-          honest = true_more (contents old_bucket) (contents new_bucket) old e sound.world.honest told left;
+          failures = let f = count_failed (has_failed seen.reply) (tells old_bucket).faults (tells new_bucket).faults (count_by (λ x. has_failed x.reply) old) later cause sound.world.failures (omega (arith, count_by-le-length (λ x. has_failed x.reply) old)) in omega (arith, f, failed_more old e);
+          honest = true_more (tells old_bucket).contents (tells new_bucket).contents old e sound.world.honest told left;
         };
       })
 
 -- a world whose bucket alone went on
-pub sound_later : {B : Type 0} (contents : B → Option Contents) (faults : B → ℕ) (old_bucket new_bucket : B) (old new : List Entry) (tick last kept : ℕ) → IsCountedWorld contents faults old_bucket old tick last kept → faults old_bucket ≤ faults new_bucket → contents new_bucket ≡ option_map (λ c. c) (contents old_bucket) → new ≡ old → IsCountedWorld contents faults new_bucket new tick last kept
-sound_later contents faults old_bucket new_bucket old new tick last kept sound later left same =
-    subst (λ entries. IsCountedWorld contents faults new_bucket entries tick last kept) (sym same)
+pub sound_later : {B : Type 0} (tells : B → BucketTold) (old_bucket new_bucket : B) (old new : List Entry) (tick last kept : ℕ) → IsCountedWorld tells old_bucket old tick last kept → (tells old_bucket).faults ≤ (tells new_bucket).faults → (tells new_bucket).contents ≡ option_map (λ c. c) (tells old_bucket).contents → new ≡ old → IsCountedWorld tells new_bucket new tick last kept
+sound_later tells old_bucket new_bucket old new tick last kept sound later left same =
+    subst (λ entries. IsCountedWorld tells new_bucket entries tick last kept) (sym same)
     (record {
       counted = sound.counted;
       world = record {
         journal = sound.world.journal;
         bytes = sound.world.bytes;
         failures = omega (arith, sound.world.failures);
-        honest = still_true (contents old_bucket) (contents new_bucket) old sound.world.honest left;
+        honest = still_true (tells old_bucket).contents (tells new_bucket).contents old sound.world.honest left;
       };
     })
 

@@ -6,6 +6,8 @@ pub mod LastLanded
 pub mod Replies
 pub mod Untold
 pub mod GoingOn
+pub mod Numbers
+pub mod Turning
 pub mod PlanLaws
 pub mod PlanWords
 pub mod PlanParts

@@ -5,6 +5,7 @@ use Rattle.std.specs.List.{before_first, slice_get}
 use Rattle.label_sets.specs.Labels.{ComesBefore}
 use Rattle.bucket_core.specs.Contents.{Contents, IsKey, nothing}
 use Rattle.bucket_core.specs.Pages.{IsPage}
+use Rattle.bucket_core.specs.Told.{BucketTold}
 use Rattle.world_core.specs.Worlds.{IsTrueOf, IsCountedWorld}
 use Rattle.world_core.specs.Standing.{stands, Tells}
 use Rattle.world_core.specs.Operations.{IsLawful, IsReplyTo, PutsBytes, ShowsBytes}
@@ -48,8 +49,8 @@ opened_true : (old new : Option Contents) → new ≡ old → IfSome old (λ c. 
 opened_true None new same empty = rw same tt
 opened_true (Some c) new same empty = rw same (record { honest = Each-none (λ before x. Tells (stands before) x.op x.reply); held = empty })
 
-pub opened_sound : {B : Type 0} (contents : B → Option Contents) (faults : B → ℕ) (old new : B) (journal : List Entry) (tick : ℕ) → journal ≡ [] → tick ≤ longest_tick → contents new ≡ contents old → IfSome (contents old) (λ c. c ≡ nothing) → IsCountedWorld contents faults new journal tick 0 0
-opened_sound contents faults old new journal tick none short same empty =
+pub opened_sound : {B : Type 0} (tells : B → BucketTold) (old new : B) (journal : List Entry) (tick : ℕ) → journal ≡ [] → tick ≤ longest_tick → (tells new).contents ≡ (tells old).contents → IfSome (tells old).contents (λ c. c ≡ nothing) → IsCountedWorld tells new journal tick 0 0
+opened_sound tells old new journal tick none short same empty =
     rw none (record {
       counted = record { short = short; latest = refl; bound = omega arith; size = omega arith };
       world = record {
@@ -63,6 +64,6 @@ opened_sound contents faults old new journal tick none short same empty =
         };
         bytes = Each-none (λ before x. PutsBytes x.op × ShowsBytes x.reply);
         failures = omega arith;
-        honest = opened_true (contents old) (contents new) same empty;
+        honest = opened_true (tells old).contents (tells new).contents same empty;
       };
     })

@@ -1,10 +1,8 @@
 -- The turns of a drive, over plain variables.
-use Rattle.std.proofs.Common.{◌≡◌, ◌⊎◌, inl, inr, Bool, true, false, IsTrue, ℕ, ◌+◌, ◌<◌, List, [], ◌∷◌, ◌++◌, length, All, Option, Some, None, unwrap_or, min, refl, sym, ap, ◌∙◌, arith, length-append, append_assoc}
+use Rattle.std.proofs.Common.{◌≡◌, ℕ, ◌+◌, ◌<◌, List, [], ◌∷◌, ◌++◌, length, All, Option, Some, None, unwrap_or, min, refl, sym, ap, ◌∙◌, subst, arith, length-append, append_assoc}
 use Rattle.std.proofs.lemmas.List.Elements.{All-push}
 use Rattle.world_core.specs.Operations.{IsAnswer, entry_of}
 use Rattle.world_core.specs.Machines.{Asks, Drives, end_of}
-use Rattle.world_core.specs.declared.act.Acted.{Acted}
-use Rattle.world_core.specs.declared.act.Acted.TheVariants.{NoMemory}
 use Rattle.world_core.specs.declared.op.Op.{Op}
 use Rattle.world_core.specs.declared.seen.Seen.{Seen}
 use Rattle.world_core.specs.declared.entry.Entry.{Entry}
@@ -31,15 +29,10 @@ stop_of (Some n) last is_last above = ap Some (sym is_last)
 count_before : (made last answered : ℕ) → (0 < last → (answered ≡ made) × (made < last)) → (min (answered + 1) 4294967295 ≡ last → ⊥) → last < 4294967296 → 0 < last → (min (answered + 1) 4294967295 ≡ made + 1) × (made + 1 < last)
 count_before made last answered before missed small above = let b = before above in (omega (arith, b.0, b.1), omega (arith, b.0, b.1, missed))
 
--- an operation that was done wanted no memory
-pub still_unwanted : (first now next : Bool) (acted : Acted) → (IsTrue now → IsTrue first) → (IsTrue next → IsTrue now ⊎ (acted ≡ NoMemory)) → (acted ≡ NoMemory → ⊥) → IsTrue next → IsTrue first
-still_unwanted first now next acted before step done wanted =
-    elim (step wanted) [ inl was ↦ before was | inr none ↦ absurd (done none) ]
-
--- a drive that did not end for want of memory wanted none
-pub not_wanted : {D : Type 0} (before now : Bool) (driven none : D) → (IsTrue now → IsTrue before ⊎ (driven ≡ none)) → before ≡ false → (driven ≡ none → ⊥) → now ≡ false
-not_wanted before false driven none step was done = refl
-not_wanted before true driven none step was done = elim (step refl) [ inl wanted ↦ absurd (cc) | inr is ↦ absurd (done is) ]
+-- a drive from an equal seat and between equal lists
+pub drives_alike : {E : Type 0} (is_run : List Entry → Option E → Type 0) (seat own : ℕ) (stop : Option ℕ) (driven : Driven E) (old was new now : List Entry) → seat ≡ own → old ≡ was → new ≡ now → Drives is_run seat stop driven old new → Drives is_run own stop driven was now
+drives_alike is_run seat own stop driven old was new now a b c d =
+    subst (λ n. Drives is_run n stop driven was now) a (subst (λ es. Drives is_run seat stop driven es now) b (subst (Drives is_run seat stop driven old) c d))
 
 module _ {M E : Type 0} (may : M → List Entry → Option E → M → Type 0) (asked : M → Option Op) (seat last : ℕ) (first : M) (old : List Entry) (op : Op) (answered : ℕ) (now : M) (new : List Entry) (w : Waiting may asked seat last first old op answered now new) where
   -- a drive that was not stopped, after one more entry

@@ -5,6 +5,7 @@ use Rattle.std.specs.Prelude.{Result, Ok, Err}
 use Rattle.base.specs.declared.memory.NoMemory.{NoMemory}
 use Rattle.bucket_core.specs.Causes.{KeepsFaults}
 use Rattle.bucket_core.specs.Contents.{Contents}
+use Rattle.bucket_core.specs.Told.{BucketTold}
 use Rattle.world_core.specs.Operations.{has_failed}
 use Rattle.world_core.specs.Performing.{IsPerformed, reply_seen}
 use Rattle.world_core.specs.Standing.{has_landed, left_by}
@@ -30,15 +31,15 @@ always : (o : Option Contents) → IfSome o (λ c. Unit {0})
 always None = tt
 always (Some c) = tt
 
-module _ {B : Type 0} (contents : B → Option Contents) (faults : B → ℕ) (quiet : B → Type 0) (old new : B) (op : Op) (reply : Reply) where
-  untold_reply : (none : NoMemory) → has_landed reply ≡ false → has_failed reply ≡ false → IsPerformed contents faults quiet old op (Ok reply) new → IsPerformed contents faults quiet old op (Err none) new
+module _ {B : Type 0} (tells : B → BucketTold) (old new : B) (op : Op) (reply : Reply) where
+  untold_reply : (none : NoMemory) → has_landed reply ≡ false → has_failed reply ≡ false → IsPerformed tells old op (Ok reply) new → IsPerformed tells old op (Err none) new
   untold_reply none landed failed done = record {
     kind = tt;
-    told = always (contents old);
-    left = done.left ∙ same_left op reply (contents old) landed;
-    kept = subst (KeepsFaults faults quiet old new) failed done.kept;
+    told = always (tells old).contents;
+    left = done.left ∙ same_left op reply (tells old).contents landed;
+    kept = subst (KeepsFaults (tells old) (tells new)) failed done.kept;
   }
 
-  pub untold : (seen : Result Seen NoMemory) (none : NoMemory) → seen ≡ Err none → has_landed reply ≡ false → has_failed reply ≡ false → IsPerformed contents faults quiet old op (Ok reply) new → IsPerformed contents faults quiet old op (reply_seen seen) new
+  pub untold : (seen : Result Seen NoMemory) (none : NoMemory) → seen ≡ Err none → has_landed reply ≡ false → has_failed reply ≡ false → IsPerformed tells old op (Ok reply) new → IsPerformed tells old op (reply_seen seen) new
   untold seen none is landed failed done =
-      subst (λ (r : Result Seen NoMemory). IsPerformed contents faults quiet old op (reply_seen r) new) (sym is) (untold_reply none landed failed done)
+      subst (λ (r : Result Seen NoMemory). IsPerformed tells old op (reply_seen r) new) (sym is) (untold_reply none landed failed done)

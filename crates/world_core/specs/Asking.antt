@@ -5,6 +5,7 @@ use Rattle.base.specs.declared.memory.NoMemory.{NoMemory}
 use Rattle.ulid_core.specs.UlidText.{text_of}
 use Rattle.block_keys.specs.KeyText.{key_text}
 use Rattle.bucket_core.specs.Asking.{Call, puts, gets, gets_range, deletes, lists, Asks}
+use Rattle.bucket_core.specs.Told.{BucketTold}
 use Rattle.world_core.specs.Worlds.{WorldView}
 use Rattle.world_core.specs.declared.op.Op.{Op}
 use Rattle.world_core.specs.declared.op.Op.TheVariants.{Clock, Put, Get, GetRange, Delete, RootPage, BlockPage}
@@ -32,32 +33,32 @@ abbrev pub opening : Call
 opening = lists [] [] 1
 
 -- Doing an operation asked for its call once, and for nothing else. Where memory was wanted it may have asked for nothing.
-abbrev pub AsksIn : {B : Type 0} → (B → Option (List Call)) → B → B → Op → Result Reply NoMemory → Type 0
-AsksIn {B} asked old new op (Ok reply) = Asks asked old new (calls_for op)
-AsksIn {B} asked old new op (Err none) = Asks asked old new (calls_for op) ⊎ (asked new ≡ asked old)
+abbrev pub AsksIn : {B : Type 0} → (B → BucketTold) → B → B → Op → Result Reply NoMemory → Type 0
+AsksIn {B} tells old new op (Ok reply) = Asks (tells old).asked (tells new).asked (calls_for op)
+AsksIn {B} tells old new op (Err none) = Asks (tells old).asked (tells new).asked (calls_for op) ⊎ ((tells new).asked ≡ (tells old).asked)
 
 -- What a world asked when an operation was asked for: its call once, and for nothing where it was refused.
-abbrev pub AsksBy : {B : Type 0} → (B → Option (List Call)) → B → B → Op → Acted → Type 0
-AsksBy {B} asked old new op (answer.Done seen) = Asks asked old new (calls_for op)
-AsksBy {B} asked old new op answer.Full = asked new ≡ asked old
-AsksBy {B} asked old new op answer.NoMemory = Asks asked old new (calls_for op) ⊎ (asked new ≡ asked old)
+abbrev pub AsksBy : {B : Type 0} → (B → BucketTold) → B → B → Op → Acted → Type 0
+AsksBy {B} tells old new op (answer.Done seen) = Asks (tells old).asked (tells new).asked (calls_for op)
+AsksBy {B} tells old new op answer.Full = (tells new).asked ≡ (tells old).asked
+AsksBy {B} tells old new op answer.NoMemory = Asks (tells old).asked (tells new).asked (calls_for op) ⊎ ((tells new).asked ≡ (tells old).asked)
 
 -- After the calls that were asked before the world was opened, the bucket was asked for the opening page and then for the
 -- journal's operations but the clock's, each once and in their order, and for nothing else.
-abbrev pub IsAllAsked : {B : Type 0} → (B → Option (List Call)) → List Call → WorldView B → Type 0
-IsAllAsked {B} asked before world = asked world.bucket ≡ Some (before ++ opening ∷ calls_of world.journal)
+abbrev pub IsAllAsked : {B : Type 0} → (B → BucketTold) → List Call → WorldView B → Type 0
+IsAllAsked {B} tells before world = (tells world.bucket).asked ≡ Some (before ++ opening ∷ calls_of world.journal)
 
 -- Operations took a world from `old` to `new`, and memory was wanted before them or until their end. Unless it was, all that
 -- the bucket was asked is journaled if it was before.
-pub record KeepsAsked {B : Type 0} (asked : B → Option (List Call)) (wanted_before : Bool) (old : WorldView B) (wanted_now : Bool) (new : WorldView B) : Type 0 where
+pub record KeepsAsked {B : Type 0} (tells : B → BucketTold) (wanted_before : Bool) (old : WorldView B) (wanted_now : Bool) (new : WorldView B) : Type 0 where
   pub later : wanted_now ≡ false → wanted_before ≡ false
-  pub all : wanted_now ≡ false → (before : List Call) → IsAllAsked asked before old → IsAllAsked asked before new
+  pub all : wanted_now ≡ false → (before : List Call) → IsAllAsked tells before old → IsAllAsked tells before new
 
-pub asked-none : {B : Type 0} (asked : B → Option (List Call)) (wanted : Bool) (world : WorldView B) → KeepsAsked asked wanted world wanted world
-asked-none asked wanted world = record { later = λ never. never; all = λ never before all. all }
+pub asked-none : {B : Type 0} (tells : B → BucketTold) (wanted : Bool) (world : WorldView B) → KeepsAsked tells wanted world wanted world
+asked-none tells wanted world = record { later = λ never. never; all = λ never before all. all }
 
-pub asked-more : {B : Type 0} (asked : B → Option (List Call)) (a b c : Bool) (first next last : WorldView B) → KeepsAsked asked a first b next → KeepsAsked asked b next c last → KeepsAsked asked a first c last
-asked-more asked a b c first next last one two = record {
+pub asked-more : {B : Type 0} (tells : B → BucketTold) (a b c : Bool) (first next last : WorldView B) → KeepsAsked tells a first b next → KeepsAsked tells b next c last → KeepsAsked tells a first c last
+asked-more tells a b c first next last one two = record {
   later = λ never. one.later (two.later never);
   all = λ never before all. two.all never before (one.all (two.later never) before all);
 }

@@ -6,6 +6,8 @@ pub mod Keeping
 pub mod Standing
 pub mod Stops
 pub mod Machines
+pub mod Told
+pub mod Turning
 pub mod Begun
 pub mod Plans
 pub mod Leads

@@ -45,6 +45,11 @@ abbrev pub is_full : Acted → Bool
 is_full answer.Full = true
 is_full other = false
 
+-- memory was wanted for the operation
+abbrev pub is_wanting : Acted → Bool
+is_wanting answer.NoMemory = true
+is_wanting other = false
+
 -- the operation was done, and the call failed
 abbrev pub is_failed : Acted → Bool
 is_failed (answer.Done seen) = has_failed seen.reply
@@ -69,6 +74,10 @@ end_of outcome.NoMemory = None
 abbrev pub is_driven_full : {E : Type 0} → Driven E → Bool
 is_driven_full outcome.Full = true
 is_driven_full other = false
+
+abbrev pub is_driven_wanting : {E : Type 0} → Driven E → Bool
+is_driven_wanting outcome.NoMemory = true
+is_driven_wanting other = false
 
 -- A run of a seat waits for an operation: with an entry of it, however it is answered, the run goes on.
 pub record Awaits {E : Type 0} (is_run : List Entry → Option E → Type 0) (seat : ℕ) (made : List Entry) : Type 0 where

@@ -3,6 +3,7 @@ use Rattle.std.specs.Prelude.{◌≡◌, ℕ, Bool, false, Option, IfSome, optio
 use Rattle.base.specs.declared.memory.NoMemory.{NoMemory}
 use Rattle.bucket_core.specs.Causes.{KeepsFaults}
 use Rattle.bucket_core.specs.Contents.{Contents}
+use Rattle.bucket_core.specs.Told.{BucketTold}
 use Rattle.bucket_core.specs.declared.answer.PutAnswer.{PutAnswer}
 use Rattle.bucket_core.specs.declared.answer.PutAnswer.TheVariants as put
 use Rattle.bucket_core.specs.declared.answer.GetAnswer.{GetAnswer}
@@ -50,12 +51,12 @@ is_failure (Ok reply) = has_failed reply
 is_failure (Err none) = false
 
 -- An operation took a bucket from `old` to `new`.
-pub record IsPerformed {B : Type 0} (contents : B → Option Contents) (faults : B → ℕ) (quiet : B → Type 0) (old : B) (op : Op) (result : Result Reply NoMemory) (new : B) : Type 0 where
+pub record IsPerformed {B : Type 0} (tells : B → BucketTold) (old : B) (op : Op) (result : Result Reply NoMemory) (new : B) : Type 0 where
   pub kind : IfOk result (λ reply. IsReplyTo op reply)
   -- where the bucket tells what it holds, the reply shows it
-  pub told : IfSome (contents old) (λ c. IfOk result (λ reply. Tells c op reply))
-  pub left : contents new ≡ option_map (left_after op result) (contents old)
-  pub kept : KeepsFaults faults quiet old new (is_failure result)
+  pub told : IfSome (tells old).contents (λ c. IfOk result (λ reply. Tells c op reply))
+  pub left : (tells new).contents ≡ option_map (left_after op result) (tells old).contents
+  pub kept : KeepsFaults (tells old) (tells new) (is_failure result)
 
 -- the reply that was told, if one was
 abbrev pub reply_seen : Result Seen NoMemory → Result Reply NoMemory

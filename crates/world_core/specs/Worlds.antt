@@ -3,6 +3,7 @@ use Rattle.std.specs.Prelude.{◌≡◌, ℕ, ◌+◌, ◌-◌, ◌*◌, ◌^◌
 use Rattle.std.proofs.Common.{◌∙◌, arith}
 use Rattle.ulid_core.specs.Limits.{ulid_time_limit}
 use Rattle.bucket_core.specs.Contents.{Contents}
+use Rattle.bucket_core.specs.Told.{BucketTold}
 use Rattle.world_core.specs.Operations.{IsLawful, IsReplyTo, PutsBytes, ShowsBytes, has_failed}
 use Rattle.world_core.specs.Journals.{Each, IsNumbered}
 use Rattle.world_core.specs.Keeping.{kept_bytes}
@@ -44,13 +45,13 @@ pub record IsTrueOf (contents : Contents) (journal : List Entry) : Type 0 where
   pub held : contents ≡ stands journal
 
 -- what holds of every world
-pub record IsWorld {B : Type 0} (contents : B → Option Contents) (faults : B → ℕ) (world : WorldView B) : Type 0 where
+pub record IsWorld {B : Type 0} (tells : B → BucketTold) (world : WorldView B) : Type 0 where
   pub journal : IsJournal world.tick world.journal
   pub bytes : IsOfBytes world.journal
   -- the bucket has failed at least as often as the journal's entries
-  pub failures : failed_count world.journal ≤ faults world.bucket
+  pub failures : failed_count world.journal ≤ (tells world.bucket).faults
   -- where the bucket tells what it holds
-  pub honest : IfSome (contents world.bucket) (λ c. IsTrueOf c world.journal)
+  pub honest : IfSome (tells world.bucket).contents (λ c. IsTrueOf c world.journal)
 
 -- what a world keeps beside: the moment of the last entry, and how many bytes the journal keeps
 pub record IsCounted (tick : ℕ) (journal : List Entry) (last kept : ℕ) : Type 0 where
@@ -59,9 +60,9 @@ pub record IsCounted (tick : ℕ) (journal : List Entry) (last kept : ℕ) : Typ
   pub bound : last ≤ moment_limit + longest_tick * length journal
   pub size : kept ≡ min (kept_bytes journal) (2 ^ 64 - 1)
 
-pub record IsCountedWorld {B : Type 0} (contents : B → Option Contents) (faults : B → ℕ) (bucket : B) (journal : List Entry) (tick last kept : ℕ) : Type 0 where
+pub record IsCountedWorld {B : Type 0} (tells : B → BucketTold) (bucket : B) (journal : List Entry) (tick last kept : ℕ) : Type 0 where
   pub counted : IsCounted tick journal last kept
-  pub world : IsWorld contents faults (record { bucket = bucket; journal = journal; tick = tick })
+  pub world : IsWorld tells (record { bucket = bucket; journal = journal; tick = tick })
 
 -- what stands in the bucket after an operation was asked for
 abbrev pub left_by_act : Op → Acted → Contents → Contents
@@ -71,18 +72,18 @@ left_by_act op NoMemory contents = contents
 
 -- A world after operations: time goes on as it did; the bucket's faults never fall, and rise only where a failed entry was added;
 -- and a bucket without faults stays so.
-pub record WorldGoesOn {B : Type 0} (faults : B → ℕ) (quiet : B → Type 0) (old new : WorldView B) : Type 0 where
+pub record WorldGoesOn {B : Type 0} (tells : B → BucketTold) (old new : WorldView B) : Type 0 where
   pub tick : new.tick ≡ old.tick
-  pub later : faults old.bucket ≤ faults new.bucket
+  pub later : (tells old.bucket).faults ≤ (tells new.bucket).faults
   pub more : failed_count old.journal ≤ failed_count new.journal
-  pub only : failed_count new.journal ≡ failed_count old.journal → faults new.bucket ≡ faults old.bucket
-  pub calm : quiet old.bucket → quiet new.bucket × (failed_count new.journal ≡ failed_count old.journal)
+  pub only : failed_count new.journal ≡ failed_count old.journal → (tells new.bucket).faults ≡ (tells old.bucket).faults
+  pub calm : (tells old.bucket).quiet → (tells new.bucket).quiet × (failed_count new.journal ≡ failed_count old.journal)
 
-pub goes_on-none : {B : Type 0} (faults : B → ℕ) (quiet : B → Type 0) (world : WorldView B) → WorldGoesOn faults quiet world world
-goes_on-none faults quiet world = record { tick = refl; later = omega arith; more = omega arith; only = λ same. refl; calm = λ q. (q, refl) }
+pub goes_on-none : {B : Type 0} (tells : B → BucketTold) (world : WorldView B) → WorldGoesOn tells world world
+goes_on-none tells world = record { tick = refl; later = omega arith; more = omega arith; only = λ same. refl; calm = λ q. (q, refl) }
 
-pub goes_on-more : {B : Type 0} (faults : B → ℕ) (quiet : B → Type 0) (first next last : WorldView B) → WorldGoesOn faults quiet first next → WorldGoesOn faults quiet next last → WorldGoesOn faults quiet first last
-goes_on-more faults quiet first next last one two = record {
+pub goes_on-more : {B : Type 0} (tells : B → BucketTold) (first next last : WorldView B) → WorldGoesOn tells first next → WorldGoesOn tells next last → WorldGoesOn tells first last
+goes_on-more tells first next last one two = record {
   tick = two.tick ∙ one.tick;
   later = omega (arith, one.later, two.later);
   more = omega (arith, one.more, two.more);

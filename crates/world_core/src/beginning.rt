@@ -1,9 +1,9 @@
 //! The drive of a machine that was to be begun. Where memory is wanting as it begins, nothing is done.
 
-ghost use Rattle.std.specs.Prelude.{◌≡◌, ◌||◌, ◌⊎◌, IfOk, IfSome, IsTrue};
+ghost use Rattle.std.specs.Prelude.{IfOk};
 ghost use Rattle.world_core.specs.Begun.{DrivesBegun};
-ghost use Rattle.world_core.specs.Keeping.{IsFull};
-ghost use Rattle.world_core.specs.Machines.{is_driven_full};
+ghost use Rattle.world_core.specs.Machines.{is_driven_full, is_driven_wanting};
+ghost use Rattle.world_core.specs.Turning.{Turned};
 
 use crate::{Driven, Hand, Machine, drive};
 use base::NoMemory;
@@ -16,14 +16,10 @@ pub fn run_begun<M: Machine + Drop, H: Hand>(
     hand: &mut H,
 ) -> Driven<M::End>
     requires { IfOk begun M.fresh }
-    ensures run { DrivesBegun M.may begun (H.seat hand.old) stop result (H.entries hand.old)
-        (H.entries hand.new) }
-    ensures seat { H.seat hand.new ≡ H.seat hand.old }
-    ensures keeps { H.keeps hand.old hand.new }
-    ensures wanted { IsTrue (H.wanted hand.new)
-        → IsTrue (H.wanted hand.old) ⊎ (result ≡ Driven.NoMemory) }
-    ensures refused { H.refused hand.new ≡ (H.refused hand.old || is_driven_full result) }
-    ensures full { result ≡ Driven.Full → IfSome (H.front hand.new) IsFull }
+    ensures run { DrivesBegun M.may begun (H.told hand.old).seat stop result
+        (H.told hand.old).entries (H.told hand.new).entries }
+    ensures hand { Turned H.told H.keeps hand.old hand.new (is_driven_full result)
+        (is_driven_wanting result) }
 {
     match begun {
         Ok(mut machine) => {

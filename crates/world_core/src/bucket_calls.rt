@@ -1,3 +1,6 @@
+//! Operations as calls of a bucket. It is the one place where a world asks its bucket for anything, once for each
+//! operation, with keys as texts.
+
 ghost use Rattle.std.specs.Prelude.{◌≡◌, ◌↔◌, ◌≤◌, IfOk, IsTrue};
 ghost use Rattle.block_keys.specs.Keys.{IsLawfulKey};
 ghost use Rattle.ulid_core.specs.UlidText.{text_of};
@@ -17,9 +20,8 @@ use wire_bytes::Blob;
 /// Does an operation on a bucket. Setting the clock leaves the bucket alone.
 pub(crate) fn perform<B: Bucket>(alloc: Global, bucket: &mut B, op: &Op) -> Result<Reply, NoMemory>
     requires { IsLawful op.now }
-    ensures performed { IsPerformed B.contents B.faults B.quiet
-        bucket.old op.now result bucket.new }
-    ensures asks { AsksIn B.asked bucket.old bucket.new op.now result }
+    ensures performed { IsPerformed B.told bucket.old op.now result bucket.new }
+    ensures asks { AsksIn B.told bucket.old bucket.new op.now result }
 {
     match op {
         Op::Clock(_) => Ok(Reply::Clocked),
@@ -34,9 +36,8 @@ pub(crate) fn perform<B: Bucket>(alloc: Global, bucket: &mut B, op: &Op) -> Resu
 
 fn put<B: Bucket>(alloc: Global, bucket: &mut B, key: Key, bytes: &Blob) -> Result<Reply, NoMemory>
     requires { IsLawfulKey key }
-    ensures performed { IsPerformed B.contents B.faults B.quiet bucket.old
-        (Op.Put key bytes.now) result bucket.new }
-    ensures asks { AsksIn B.asked bucket.old bucket.new (Op.Put key bytes.now) result }
+    ensures performed { IsPerformed B.told bucket.old (Op.Put key bytes.now) result bucket.new }
+    ensures asks { AsksIn B.told bucket.old bucket.new (Op.Put key bytes.now) result }
 {
     let name = key.text(alloc)?;
     put_reply(bucket.put(name.as_str(), bytes))
@@ -44,9 +45,8 @@ fn put<B: Bucket>(alloc: Global, bucket: &mut B, key: Key, bytes: &Blob) -> Resu
 
 fn get<B: Bucket>(alloc: Global, bucket: &mut B, key: Key) -> Result<Reply, NoMemory>
     requires { IsLawfulKey key }
-    ensures performed { IsPerformed B.contents B.faults B.quiet
-        bucket.old (Op.Get key) result bucket.new }
-    ensures asks { AsksIn B.asked bucket.old bucket.new (Op.Get key) result }
+    ensures performed { IsPerformed B.told bucket.old (Op.Get key) result bucket.new }
+    ensures asks { AsksIn B.told bucket.old bucket.new (Op.Get key) result }
 {
     let name = key.text(alloc)?;
     get_reply(bucket.get(name.as_str()))
@@ -60,9 +60,8 @@ fn get_range<B: Bucket>(
     len: u64,
 ) -> Result<Reply, NoMemory>
     requires { IsLawfulKey key }
-    ensures performed { IsPerformed B.contents B.faults B.quiet bucket.old
-        (Op.GetRange key from len) result bucket.new }
-    ensures asks { AsksIn B.asked bucket.old bucket.new (Op.GetRange key from len) result }
+    ensures performed { IsPerformed B.told bucket.old (Op.GetRange key from len) result bucket.new }
+    ensures asks { AsksIn B.told bucket.old bucket.new (Op.GetRange key from len) result }
 {
     let name = key.text(alloc)?;
     get_reply(bucket.get_range(name.as_str(), from, len))
@@ -70,9 +69,8 @@ fn get_range<B: Bucket>(
 
 fn delete<B: Bucket>(alloc: Global, bucket: &mut B, key: Key) -> Result<Reply, NoMemory>
     requires { IsLawfulKey key }
-    ensures performed { IsPerformed B.contents B.faults B.quiet
-        bucket.old (Op.Delete key) result bucket.new }
-    ensures asks { AsksIn B.asked bucket.old bucket.new (Op.Delete key) result }
+    ensures performed { IsPerformed B.told bucket.old (Op.Delete key) result bucket.new }
+    ensures asks { AsksIn B.told bucket.old bucket.new (Op.Delete key) result }
 {
     let name = key.text(alloc)?;
     delete_reply(bucket.delete(name.as_str()))
@@ -80,9 +78,8 @@ fn delete<B: Bucket>(alloc: Global, bucket: &mut B, key: Key) -> Result<Reply, N
 
 fn root_page<B: Bucket>(bucket: &mut B, after: &Text, limit: u32) -> Result<Reply, NoMemory>
     requires { 1 ≤ limit }
-    ensures performed { IsPerformed B.contents B.faults B.quiet bucket.old
-        (Op.RootPage after.now limit) result bucket.new }
-    ensures asks { AsksIn B.asked bucket.old bucket.new (Op.RootPage after.now limit) result }
+    ensures performed { IsPerformed B.told bucket.old (Op.RootPage after.now limit) result bucket.new }
+    ensures asks { AsksIn B.told bucket.old bucket.new (Op.RootPage after.now limit) result }
 {
     page_reply(bucket.page("", after.as_str(), limit))
 }
@@ -95,9 +92,8 @@ fn block_page<B: Bucket>(
     limit: u32,
 ) -> Result<Reply, NoMemory>
     requires { 1 ≤ limit }
-    ensures performed { IsPerformed B.contents B.faults B.quiet bucket.old
-        (Op.BlockPage ulid after.now limit) result bucket.new }
-    ensures asks { AsksIn B.asked bucket.old bucket.new (Op.BlockPage ulid after.now limit) result }
+    ensures performed { IsPerformed B.told bucket.old (Op.BlockPage ulid after.now limit) result bucket.new }
+    ensures asks { AsksIn B.told bucket.old bucket.new (Op.BlockPage ulid after.now limit) result }
 {
     let name = block_name(alloc, ulid)?;
     page_reply(bucket.page(name.as_str(), after.as_str(), limit))

@@ -1,8 +1,12 @@
-ghost use Rattle.std.specs.Prelude.{◌≡◌, ◌≢◌, ◌⊎◌, ◌||◌, List, IfSome, IsTrue};
+//! How a machine is run by a hand. Here alone an activity is stopped between two operations, as a script asks for it:
+//! so what a process leaves that ends in the midst of its work can be tried.
+
+ghost use Rattle.std.specs.Prelude.{◌≡◌, ◌≢◌, List};
 ghost use Rattle.bucket_core.specs.Asking.{Call};
 ghost use Rattle.world_core.specs.Asking.{IsAllAsked};
 ghost use Rattle.world_core.specs.Keeping.{IsFull};
-ghost use Rattle.world_core.specs.Machines.{Drives, is_driven_full};
+ghost use Rattle.world_core.specs.Machines.{Drives, is_driven_full, is_driven_wanting};
+ghost use Rattle.world_core.specs.Turning.{Turned};
 ghost use Rattle.world_core.specs.Worlds.{WorldGoesOn};
 
 use crate::{Act, Acted, Hand, Machine, World, WorldHand};
@@ -31,13 +35,9 @@ pub fn drive<M: Machine, H: Hand>(
 ) -> Driven<M::End>
     requires { M.fresh machine.old }
     ensures run { Drives (λ made end. M.may machine.old made end machine.new)
-        (H.seat hand.old) stop result (H.entries hand.old) (H.entries hand.new) }
-    ensures seat { H.seat hand.new ≡ H.seat hand.old }
-    ensures keeps { H.keeps hand.old hand.new }
-    ensures wanted { IsTrue (H.wanted hand.new)
-        → IsTrue (H.wanted hand.old) ⊎ (result ≡ Driven.NoMemory) }
-    ensures refused { H.refused hand.new ≡ (H.refused hand.old || is_driven_full result) }
-    ensures full { result ≡ Driven.Full → IfSome (H.front hand.new) IsFull }
+        (H.told hand.old).seat stop result (H.told hand.old).entries (H.told hand.new).entries }
+    ensures hand { Turned H.told H.keeps hand.old hand.new (is_driven_full result)
+        (is_driven_wanting result) }
 {
     let mut op = match machine.first() {
         Ok(Act::Do(op)) => op,
@@ -65,7 +65,7 @@ pub fn drive<M: Machine, H: Hand>(
 }
 
 /// Drives a machine over a world from one seat, and hands the world back.
-#[tactic(auto, using(crate::proofs::Turns::not_wanted))]
+#[tactic(auto, using(crate::proofs::Turning::not_wanted, crate::proofs::Turning::driven_to_full))]
 pub fn drive_over<M: Machine, B: Bucket>(
     machine: &mut M,
     world: World<B>,
@@ -76,11 +76,11 @@ pub fn drive_over<M: Machine, B: Bucket>(
     ensures run { Drives
         (λ made end. M.may machine.old made end machine.new) seat stop result.0 world.journal
         result.1.journal }
-    ensures keeps { WorldGoesOn B.faults B.quiet world result.1 }
+    ensures keeps { WorldGoesOn B.told world result.1 }
 
     // If all that the bucket was asked was journaled, it still is, unless memory was wanted.
     ensures all { result.0 ≢ Driven.NoMemory → (before : List Call)
-        → IsAllAsked B.asked before world → IsAllAsked B.asked before result.1 }
+        → IsAllAsked B.told before world → IsAllAsked B.told before result.1 }
     ensures full { result.0 ≡ Driven.Full → IsFull result.1.journal }
 {
     let mut hand = WorldHand::new(world, seat);

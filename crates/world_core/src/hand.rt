@@ -1,4 +1,4 @@
-ghost use Rattle.std.specs.Prelude.{◌≡◌, ◌⊎◌, ◌++◌, ◌||◌, IfSome, IsTrue};
+ghost use Rattle.std.specs.Prelude.{◌≡◌, ◌⊎◌, ◌++◌, ◌||◌, ◌<◌, ◌≤◌, IfSome, IsTrue};
 ghost use Rattle.world_core.specs.Operations.{IsLawful, IsAnswer};
 ghost use Rattle.world_core.specs.Keeping.{IsFull};
 ghost use Rattle.world_core.specs.Machines.{gained, IfDone, is_full};
@@ -7,23 +7,10 @@ use crate::{Acted, Op};
 
 /// What does operations for a machine.
 pub trait Hand {
-    ghost use Rattle.std.specs.Prelude.{ℕ, Bool, List, Option};
-    ghost use Rattle.world_core.specs.declared.entry.Entry.{Entry};
+    ghost use Rattle.world_core.specs.Told.{HandTold};
 
-    /// A list of entries, to which each operation that is done adds its own.
-    ghost entries: { Self → List Entry };
-
-    /// The seat of the entries that it adds.
-    ghost seat: { Self → ℕ };
-
-    /// A journal that it has seen, where it tells one.
-    ghost front: { Self → Option (List Entry) };
-
-    /// An operation was answered `Full`.
-    ghost refused: { Self → Bool };
-
-    /// Memory was wanted in one of its operations. A hand that can't tell may say that it was not.
-    ghost wanted: { Self → Bool };
+    /// What it tells of itself.
+    ghost told: { Self → HandTold };
 
     /// What its operations keep, between the hand before them and the hand after them.
     ghost keeps: { Self → Self → Type 0 };
@@ -31,15 +18,33 @@ pub trait Hand {
     /// Does one operation.
     fn act(&mut self, op: Op) -> Acted
         requires { IsLawful op }
-        ensures entries { entries self.new ≡ entries self.old ++ gained (seat self.old) op result }
+        ensures entries { (told self.new).entries
+            ≡ (told self.old).entries ++ gained (told self.old).seat op result }
         ensures answer { IfDone result (IsAnswer op) }
-        ensures seat { seat self.new ≡ seat self.old }
-        ensures refused { refused self.new ≡ (refused self.old || is_full result) }
-        ensures full { result ≡ Acted.Full → IfSome (front self.new) IsFull }
+        ensures seat { (told self.new).seat ≡ (told self.old).seat }
+        ensures refused { (told self.new).refused ≡ ((told self.old).refused || is_full result) }
+        ensures full { result ≡ Acted.Full → IfSome (told self.new).front IsFull }
         ensures memory { result ≡ Acted.NoMemory
-            → IfSome (front self.new) (λ entries. ¬ IsFull entries) }
-        ensures wanted { IsTrue (wanted self.new)
-            → IsTrue (wanted self.old) ⊎ (result ≡ Acted.NoMemory) }
+            → IfSome (told self.new).front (λ entries. ¬ IsFull entries) }
+        ensures wanted { IsTrue (told self.new).wanted
+            → IsTrue (told self.old).wanted ⊎ (result ≡ Acted.NoMemory) }
+        ensures keeps { keeps self.old self.new }
+
+        // Its entry comes later than all that it had seen.
+        ensures above { IfDone result (λ seen. (told self.old).known < seen.seq) }
+        ensures within { IfDone result (λ seen. seen.seq ≤ (told self.new).known) }
+        ensures known { (told self.old).known ≤ (told self.new).known };
+
+    /// The number of the last entry that there is now, or was since it last saw one. Nothing is done, and each entry that it adds
+    /// from now on has a greater number.
+    fn look(&mut self) -> u64
+        ensures value { result ≡ (told self.new).known }
+        ensures known { (told self.old).known ≤ (told self.new).known }
+        ensures entries { (told self.new).entries ≡ (told self.old).entries }
+        ensures seat { (told self.new).seat ≡ (told self.old).seat }
+        ensures front { (told self.new).front ≡ (told self.old).front }
+        ensures refused { (told self.new).refused ≡ (told self.old).refused }
+        ensures wanted { (told self.new).wanted ≡ (told self.old).wanted }
         ensures keeps { keeps self.old self.new };
 
     /// What is kept holds where nothing was done.

@@ -1,13 +1,16 @@
+//! The record of all that was done over a bucket, of which the laws speak. Room for an entry is made before its
+//! operation is done, so that nothing happens to the bucket that is not told.
+
 ghost use Rattle.std.specs.Prelude.{◌≡◌, ◌↔◌, ℕ, ◌+◌, ◌≤◌, ◌<◌, IsTrue, List, [], ◌∷◌, ◌++◌, length, IfOk, OnErr};
 ghost use Rattle.std.specs.Option.{option_copied};
 ghost use Rattle.world_core.specs.Asking.{AsksIn};
-ghost use Rattle.world_core.specs.Journals.{entry_at};
+ghost use Rattle.world_core.specs.Journals.{IsNumbered, entry_at};
 ghost use Rattle.world_core.specs.Limits.{most_entries};
 ghost use Rattle.world_core.specs.Operations.{IsLawful, entry_of};
 ghost use Rattle.world_core.specs.Performing.{IsPerformed, reply_seen};
 
 use crate::bucket_calls::perform;
-use crate::{Entry, Op, Seen};
+use crate::{Entry, EntryList, Op, Seen};
 use base::{NoMemory, TryCopy};
 use bucket_core::Bucket;
 use moment_core::Moment;
@@ -36,6 +39,16 @@ impl Journal {
     {
         Journal {
             entries: Vec::new(alloc),
+        }
+    }
+
+    /// The journal of these entries, which are numbered in their order, from 1 on. It takes no memory.
+    pub fn from_entries(entries: EntryList) -> Journal
+        requires { IsNumbered entries }
+        ensures { result ≡ entries }
+    {
+        Journal {
+            entries: entries.into_vec(),
         }
     }
 
@@ -85,9 +98,9 @@ impl Journal {
         ensures seq { IfOk result (λ seen. seen.seq ≡ length self.old + 1) }
         ensures moment { IfOk result (λ seen. seen.moment ≡ moment) }
         ensures err { OnErr result (self.new ≡ self.old) }
-        ensures performed { IsPerformed B.contents B.faults B.quiet bucket.old op
+        ensures performed { IsPerformed B.told bucket.old op
             (reply_seen result) bucket.new }
-        ensures asks { AsksIn B.asked bucket.old bucket.new op (reply_seen result) }
+        ensures asks { AsksIn B.told bucket.old bucket.new op (reply_seen result) }
     {
         self.entries.reserve(1)?;
         let seq = self.entries.len() as u64 + 1;

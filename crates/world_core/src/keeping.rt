@@ -1,3 +1,6 @@
+//! When a journal is full: by its entries, or by the bytes that they keep, so that a run that never ends is stopped
+//! before it has taken all memory. Bytes that entries share are counted for each.
+
 ghost use Rattle.std.specs.Prelude.{◌≡◌, ◌-◌, ◌^◌, ℕ, min, length, sum_by};
 ghost use Rattle.std.specs.List.{AllByRecursion};
 ghost use Rattle.std.specs.Str.{IsUtf8};

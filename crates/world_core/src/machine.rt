@@ -29,7 +29,7 @@ pub trait Machine {
     /// It was never called.
     ghost fresh: { Self → Type 0 };
 
-    /// Begins.
+    /// Asks for the first operation, or ends where none is needed.
     fn first(&mut self) -> Result<Act<Self::End>, NoMemory>
         requires { fresh self.old }
         ensures { GoesOn may asked self.old [] result self.new };

@@ -1,3 +1,5 @@
+//! The operations of which a run is made, one at a time: on an object of the bucket, or on the clock.
+
 use base::{NoMemory, TryCopy};
 use block_keys::Key;
 use label_sets::Text;
@@ -19,6 +21,33 @@ pub enum Op {
     RootPage(Text, u32),
     /// The names of one block's objects after the text, which is empty at first, and at most how many.
     BlockPage(Ulid, Text, u32),
+}
+
+impl Op {
+    ghost use Rattle.std.specs.Prelude.{◌≡◌, ◌↔◌, IsTrue};
+
+    /// Whether this is the same operation, down to its bytes.
+    pub fn is_same(&self, other: &Op) -> bool
+        ensures { IsTrue result ↔ (self.now ≡ other.now) }
+    {
+        match self {
+            Op::Clock(moment) => matches!(other, Op::Clock(own) if own == moment),
+            Op::Put(key, bytes) => {
+                matches!(other, Op::Put(own, kept) if own == key && kept.bytes() == bytes.bytes())
+            }
+            Op::Get(key) => matches!(other, Op::Get(own) if own == key),
+            Op::GetRange(key, from, len) => {
+                matches!(other, Op::GetRange(own, low, most) if own == key && low == from && most == len)
+            }
+            Op::Delete(key) => matches!(other, Op::Delete(own) if own == key),
+            Op::RootPage(after, limit) => {
+                matches!(other, Op::RootPage(own, most) if own == after && most == limit)
+            }
+            Op::BlockPage(ulid, after, limit) => {
+                matches!(other, Op::BlockPage(block, own, most) if block == ulid && own == after && most == limit)
+            }
+        }
+    }
 }
 
 impl TryCopy for Op {

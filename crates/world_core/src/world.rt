@@ -1,3 +1,6 @@
+//! A bucket with its journal and its clock: an operation is done, dated and told in one step. Only an empty bucket is
+//! opened, so that all that ever stands in it was put by an entry.
+
 ghost use Rattle.std.specs.Prelude.{◌≡◌, false, ◌↔◌, ℕ, ◌+◌, ◌≤◌, ◌<◌, IsTrue, [], ◌∷◌, ◌++◌, length, ◌≢◌, List, Some, slice_get, IfOk, IfErr, MatchResult, IfSome, option_map};
 ghost use Rattle.ulid_core.specs.Limits.{ulid_time_limit};
 ghost use Rattle.bucket_core.specs.Asking.{Call, Asks, AsksOnce};
@@ -50,7 +53,7 @@ impl<B: Bucket> Model for World<B> {
     ghost view = { λ w. record { bucket = w.bucket; journal = w.journal; tick = w.tick.ms } };
 
     ghost invariant = { λ w.
-        IsCountedWorld B.contents B.faults w.bucket w.journal w.tick.ms w.last.ms w.kept };
+        IsCountedWorld B.told w.bucket w.journal w.tick.ms w.last.ms w.kept };
 }
 
 impl<B: Bucket> World<B> {
@@ -62,32 +65,36 @@ impl<B: Bucket> World<B> {
         requires { tick.ms ≤ longest_tick }
         ensures journal { IfOk result (λ world. world.journal ≡ []) }
         ensures tick { IfOk result (λ world. world.tick ≡ tick.ms) }
-        ensures kept { MatchResult result (λ world. B.contents world.bucket ≡ B.contents bucket)
-            (λ e. B.contents e.1 ≡ B.contents bucket) }
+        ensures kept { MatchResult result
+            (λ world. (B.told world.bucket).contents ≡ (B.told bucket).contents)
+            (λ e. (B.told e.1).contents ≡ (B.told bucket).contents) }
 
         // A bucket that tells what it holds is opened where nothing stands, and else names its least name.
-        ensures empty { IfOk result (λ world. IfSome (B.contents bucket) (λ c. c ≡ nothing)) }
+        ensures empty { IfOk result (λ world. IfSome (B.told bucket).contents (λ c. c ≡ nothing)) }
         ensures not_empty { IfErr result (λ e. (name : List ℕ) → e.0 ≡ OpenRefusal.NotEmpty name →
-            IfSome (B.contents bucket) (λ c. IsPage c [] [] 1 (name ∷ []))) }
+            IfSome (B.told bucket).contents (λ c. IsPage c [] [] 1 (name ∷ []))) }
 
         // A failure has its cause in the bucket, whose count of faults rises by it alone.
-        ensures later { MatchResult result (λ world. B.faults bucket ≤ B.faults world.bucket)
-            (λ e. B.faults bucket ≤ B.faults e.1) }
+        ensures later { MatchResult result
+            (λ world. (B.told bucket).faults ≤ (B.told world.bucket).faults)
+            (λ e. (B.told bucket).faults ≤ (B.told e.1).faults) }
         ensures failed { IfErr result
-            (λ e. e.0 ≡ OpenRefusal.Failed → Rose (B.faults bucket) (B.faults e.1)) }
-        ensures only { MatchResult result (λ world. B.faults world.bucket ≡ B.faults bucket)
-            (λ e. e.0 ≢ OpenRefusal.Failed → B.faults e.1 ≡ B.faults bucket) }
-        ensures calm { B.quiet bucket
-            → MatchResult result (λ world. B.quiet world.bucket)
-            (λ e. B.quiet e.1 × (e.0 ≢ OpenRefusal.Failed)) }
-        ensures holds { IfOk result (λ world. IsWorld B.contents B.faults world) }
+            (λ e. e.0 ≡ OpenRefusal.Failed → Rose (B.told bucket).faults (B.told e.1).faults) }
+        ensures only { MatchResult result
+            (λ world. (B.told world.bucket).faults ≡ (B.told bucket).faults)
+            (λ e. e.0 ≢ OpenRefusal.Failed → (B.told e.1).faults ≡ (B.told bucket).faults) }
+        ensures calm { (B.told bucket).quiet
+            → MatchResult result (λ world. (B.told world.bucket).quiet)
+            (λ e. (B.told e.1).quiet × (e.0 ≢ OpenRefusal.Failed)) }
+        ensures holds { IfOk result (λ world. IsWorld B.told world) }
 
         // The bucket is asked for the page alone, which it may leave out where it wanted memory.
         ensures asks { MatchResult result
-            (λ world. Asks B.asked bucket world.bucket (opening ∷ []))
-            (λ e. AsksOnce B.asked bucket e.1 opening e.0 OpenRefusal.NoMemory) }
-        ensures all { IfOk result (λ world. (before : List Call) → B.asked bucket ≡ Some before
-            → IsAllAsked B.asked before world) }
+            (λ world. Asks (B.told bucket).asked (B.told world.bucket).asked (opening ∷ []))
+            (λ e. AsksOnce (B.told bucket).asked (B.told e.1).asked opening
+            e.0 OpenRefusal.NoMemory) }
+        ensures all { IfOk result (λ world. (before : List Call)
+            → (B.told bucket).asked ≡ Some before → IsAllAsked B.told before world) }
     {
         let refusal = match bucket.page("", "", 1) {
             PageAnswer::Names(names) => match first_name(names) {
@@ -123,29 +130,29 @@ impl<B: Bucket> World<B> {
         ensures unchanged { result ≡ Acted.Full → self.new ≡ self.old }
         ensures as_before { IfNotDone result
             ((self.new.journal ≡ self.old.journal)
-            × (B.contents self.new.bucket ≡ B.contents self.old.bucket)) }
+            × ((B.told self.new.bucket).contents ≡ (B.told self.old.bucket).contents)) }
 
         // Where the bucket tells what it holds, the reply shows it, and what is left follows from the reply.
-        ensures told { IfSome (B.contents self.old.bucket)
+        ensures told { IfSome (B.told self.old.bucket).contents
             (λ c. IfDone result (λ seen. Tells c op seen.reply)) }
-        ensures left { B.contents self.new.bucket
-            ≡ option_map (left_by_act op result) (B.contents self.old.bucket) }
+        ensures left { (B.told self.new.bucket).contents
+            ≡ option_map (left_by_act op result) (B.told self.old.bucket).contents }
 
         // A failure has its cause in the bucket, whose count of faults rises by it alone.
-        ensures later { B.faults self.old.bucket ≤ B.faults self.new.bucket }
+        ensures later { (B.told self.old.bucket).faults ≤ (B.told self.new.bucket).faults }
         ensures cause { IfDone result
             (λ seen. IsTrue (has_failed seen.reply)
-            → Rose (B.faults self.old.bucket) (B.faults self.new.bucket)) }
+            → Rose (B.told self.old.bucket).faults (B.told self.new.bucket).faults) }
         ensures only { is_failed result ≡ false
-            → B.faults self.new.bucket ≡ B.faults self.old.bucket }
-        ensures calm { B.quiet self.old.bucket → B.quiet self.new.bucket
+            → (B.told self.new.bucket).faults ≡ (B.told self.old.bucket).faults }
+        ensures calm { (B.told self.old.bucket).quiet → (B.told self.new.bucket).quiet
             × IfDone result (λ seen. has_failed seen.reply ≡ false) }
-        ensures holds { IsWorld B.contents B.faults self.new }
+        ensures holds { IsWorld B.told self.new }
 
         // The bucket is asked for the operation once, and for nothing where the journal is full.
-        ensures asks { AsksBy B.asked self.old.bucket self.new.bucket op result }
+        ensures asks { AsksBy B.told self.old.bucket self.new.bucket op result }
         ensures all { result ≢ Acted.NoMemory → (before : List Call)
-            → IsAllAsked B.asked before self.old → IsAllAsked B.asked before self.new }
+            → IsAllAsked B.told before self.old → IsAllAsked B.told before self.new }
     {
         if self.is_full() {
             return Acted::Full;
@@ -171,7 +178,7 @@ impl<B: Bucket> World<B> {
     /// What was done so far.
     pub fn journal(&self) -> &Journal
         ensures journal { result.now ≡ self.now.journal }
-        ensures holds { IsWorld B.contents B.faults self.now }
+        ensures holds { IsWorld B.told self.now }
     {
         &self.journal
     }
@@ -180,7 +187,7 @@ impl<B: Bucket> World<B> {
     pub fn into_parts(self) -> (Journal, B)
         ensures journal { result.0 ≡ self.journal }
         ensures bucket { result.1 ≡ self.bucket }
-        ensures holds { IsWorld B.contents B.faults self }
+        ensures holds { IsWorld B.told self }
     {
         (self.journal, self.bucket)
     }

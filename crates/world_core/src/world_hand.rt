@@ -1,4 +1,7 @@
-ghost use Rattle.std.specs.Prelude.{◌≡◌, Some, false};
+//! The hand of an activity that has a world to itself: all its operations are done at one seat, and the world is handed
+//! back behind them.
+
+ghost use Rattle.std.specs.Prelude.{◌≡◌, Some, false, length};
 
 use crate::{Acted, Hand, Op, World};
 use bucket_core::Bucket;
@@ -40,31 +43,30 @@ impl<B: Bucket> Hand for WorldHand<B> {
     ghost use Rattle.world_core.specs.Asking.{KeepsAsked, asked-none, asked-more};
     ghost use Rattle.world_core.specs.Worlds.{WorldGoesOn, goes_on-none, goes_on-more};
 
-    ghost entries = { λ hand. hand.world.journal };
+    ghost told = { λ hand. record {
+      entries = hand.world.journal;
+      seat = hand.seat;
+      front = Some hand.world.journal;
+      known = length hand.world.journal;
+      refused = hand.refused;
+      wanted = hand.wanted;
+    } };
 
-    ghost seat = { λ hand. hand.seat };
-
-    ghost front = { λ hand. Some hand.world.journal };
-
-    ghost refused = { λ hand. hand.refused };
-
-    ghost wanted = { λ hand. hand.wanted };
-
-    ghost keeps = { λ old new. WorldGoesOn B.faults B.quiet old.world new.world
-        × KeepsAsked B.asked old.wanted old.world new.wanted new.world };
+    ghost keeps = { λ old new. WorldGoesOn B.told old.world new.world
+        × KeepsAsked B.told old.wanted old.world new.wanted new.world };
 
     ghost keeps_none = { λ hand. (
-      goes_on-none B.faults B.quiet hand.world,
-      asked-none B.asked hand.wanted hand.world,
+      goes_on-none B.told hand.world,
+      asked-none B.told hand.wanted hand.world,
     ) };
 
     ghost keeps_more = { λ first next last one two. (
-      goes_on-more B.faults B.quiet first.world next.world last.world one.0 two.0,
-      asked-more B.asked first.wanted next.wanted last.wanted first.world next.world last.world
+      goes_on-more B.told first.world next.world last.world one.0 two.0,
+      asked-more B.told first.wanted next.wanted last.wanted first.world next.world last.world
           one.1 two.1,
     ) };
 
-    #[tactic(auto, using(crate::proofs::GoingOn::acted_goes_on))]
+    #[tactic(auto, using(crate::proofs::GoingOn::acted_goes_on, crate::proofs::Numbers::above, crate::proofs::Numbers::within, crate::proofs::Numbers::later))]
     fn act(&mut self, op: Op) -> Acted {
         let acted = self.world.act(self.seat, op);
         match acted {
@@ -73,5 +75,9 @@ impl<B: Bucket> Hand for WorldHand<B> {
             Acted::Done(_) => {}
         }
         acted
+    }
+
+    fn look(&mut self) -> u64 {
+        self.world.journal().len()
     }
 }

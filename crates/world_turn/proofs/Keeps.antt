@@ -11,6 +11,7 @@ use Rattle.std.specs.List.{AllByRecursion}
 use mathlib.Core.List.{IsPrefix}
 use Rattle.atomic_table.specs.Table.{State, Me, Step, step, opening, Final, Seen, Act, keeps, takes, gives, stepped, rest, put_back, Allows, Splits, Joins}
 use Rattle.bucket_core.specs.Asking.{Call}
+use Rattle.bucket_core.specs.Told.{BucketTold}
 use Rattle.atomic_table.proofs.Lists.{at_last, at_set, set_again, set_here, set_else, at_longer}
 use Rattle.std.proofs.lemmas.List.{map-append}
 use Rattle.std.proofs.lemmas.List.Elements.{Contains-append_left, Contains-push}
@@ -73,7 +74,7 @@ bare_front v log bare begins = ⊎_elim
     (λ m. m)
     (λ (m : v.beside ≡ log). let none : log ≡ [] = sym m ∙ bare in no_front v.front begins.0 (begins.1 ∙ none) ∙ sym none)
 
-module _ {W : Type 0} (journal : W → List Entry) (ticks faults : W → ℕ) (asked : W → Option (List Call)) (opened : Opened) where
+module _ {W : Type 0} (journal : W → List Entry) (ticks : W → ℕ) (tells : W → BucketTold) (opened : Opened) where
   abbrev St : Type 0
   St = State (Option W) View
 
@@ -81,13 +82,13 @@ module _ {W : Type 0} (journal : W → List Entry) (ticks faults : W → ℕ) (a
   M = Me (Option W) View
 
   abbrev R : St → Type 0
-  R = Rule journal ticks faults asked opened
+  R = Rule journal ticks tells opened
 
   abbrev From : Opened → W → Type 0
-  From = IsFrom journal ticks faults
+  From = IsFrom journal ticks tells
 
   abbrev Asked : Opened → W → Type 0
-  Asked = IsAsked journal asked
+  Asked = IsAsked journal tells
 
   -- what a step may change of the rule's own data
   abbrev Free : List (mathlib.Core.Option.Option (Option W)) → ℕ → Bool → List Entry → Type 0
@@ -182,7 +183,7 @@ module _ {W : Type 0} (journal : W → List Entry) (ticks faults : W → ℕ) (a
 
   take_at : (s : St) (r : R s) (slots id : ℕ) (v : View) (c : List (ℕ × Option W)) (n : ℕ) → n ≡ r.turn → get_elem? s.views id ≡ some v → v.live ≡ true → Dec (n ≡ 0) → n ≡ slice_index s.words 1
       → (w : View) × (a : Act (Option W)) × Rattle.atomic_table.specs.Table.Valid s.homes c a × R (stepped s 1 (either (eqb n 0) 1 n) id c w a)
-      × Takes journal ticks faults asked (step slots 1 0 1 none) (v, c) n (w, Rattle.atomic_table.specs.Table.carried_after c a)
+      × Takes journal ticks tells (step slots 1 0 1 none) (v, c) n (w, Rattle.atomic_table.specs.Table.carried_after c a)
   take_at s r slots id v c n is at live (yes z) here =
       let f = r.each id v at in
       let h = r.free (sym is ∙ z) in
@@ -219,7 +220,7 @@ module _ {W : Type 0} (journal : W → List Entry) (ticks faults : W → ℕ) (a
     ((λ z. absurd (nz z)), (λ _. refl)),
   )
 
-  pub takes_turn : (slots id : ℕ) (v : View) (c : List (ℕ × Option W)) → v.live ≡ true → Allows R slots id (v, c) 1 (λ n. either (eqb n 0) 1 n) (Takes journal ticks faults asked (step slots 1 0 1 none) (v, c))
+  pub takes_turn : (slots id : ℕ) (v : View) (c : List (ℕ × Option W)) → v.live ≡ true → Allows R slots id (v, c) 1 (λ n. either (eqb n 0) 1 n) (Takes journal ticks tells (step slots 1 0 1 none) (v, c))
   takes_turn slots id v c live s r len at small =
       take_at s r slots id v c (slice_index s.words 1) (ap (λ ws. slice_index ws 1) r.words) at live (ℕ_discrete (slice_index s.words 1) 0) refl
 
@@ -228,11 +229,11 @@ module _ {W : Type 0} (journal : W → List Entry) (ticks faults : W → ℕ) (a
   lying ((k, None) ∷ xs) = []
   lying ((k, Some w) ∷ xs) = journal w
 
-  lies_so : (c : List (ℕ × Option W)) (l : List Entry) → Lies journal ticks faults asked c l → lying c ≡ l
+  lies_so : (c : List (ℕ × Option W)) (l : List Entry) → Lies journal ticks tells c l → lying c ≡ l
   lies_so c l x = ap lying x.1 ∙ x.2
 
-  pub appends : (slots id : ℕ) (v : View) (c : List (ℕ × Option W)) (e : Entry) → v.live ≡ true → v.holds ≡ true → e.seat ≡ v.seat → length v.held + 1 < 2 ^ 64 → Lies journal ticks faults asked c (v.held ++ e ∷ [])
-      → Allows R slots id (v, c) 0 (λ n. (n + 1) % 2 ^ 64) (Appends journal ticks faults asked (step slots 0 1 0 none) (v, c))
+  pub appends : (slots id : ℕ) (v : View) (c : List (ℕ × Option W)) (e : Entry) → v.live ≡ true → v.holds ≡ true → e.seat ≡ v.seat → length v.held + 1 < 2 ^ 64 → Lies journal ticks tells c (v.held ++ e ∷ [])
+      → Allows R slots id (v, c) 0 (λ n. (n + 1) % 2 ^ 64) (Appends journal ticks tells (step slots 0 1 0 none) (v, c))
   appends slots id v c e live h is room lies s r len at small =
       let f = r.each id v at in
       let x = f.holds h in
@@ -285,7 +286,7 @@ module _ {W : Type 0} (journal : W → List Entry) (ticks faults : W → ℕ) (a
       (λ j u apart at' h'. let t = (r.each j u at').holds h' in (t.0, t.1, t.3, t.4))
       (set-get_or s.words i 0 ∙ r.words) mine r.free (taken_still s r id v w at rests) (told_still s r id v w at live' more) longest
 
-  pub looks : (slots id : ℕ) (v : View) (c : List (ℕ × Option W)) → v.live ≡ true → v.holds ≡ false → Allows R slots id (v, c) 0 (λ n. n) (Counts journal ticks faults asked (step slots 0 0 0 none) (v, c))
+  pub looks : (slots id : ℕ) (v : View) (c : List (ℕ × Option W)) → v.live ≡ true → v.holds ≡ false → Allows R slots id (v, c) 0 (λ n. n) (Counts journal ticks tells (step slots 0 0 0 none) (v, c))
   looks slots id v c live rests s r len at small =
       let f = r.each id v at in
       let found : slice_index s.words 0 ≡ length r.log = ap (λ ws. slice_index ws 0) r.words in
@@ -299,7 +300,7 @@ module _ {W : Type 0} (journal : W → List Entry) (ticks faults : W → ℕ) (a
         (omega arith, refl),
       )
 
-  pub compares : (slots id : ℕ) (v : View) (c : List (ℕ × Option W)) → v.live ≡ true → v.holds ≡ false → Allows R slots id (v, c) 0 (λ n. n) (Compares journal ticks faults asked (step slots 0 0 0 none) (v, c))
+  pub compares : (slots id : ℕ) (v : View) (c : List (ℕ × Option W)) → v.live ≡ true → v.holds ≡ false → Allows R slots id (v, c) 0 (λ n. n) (Compares journal ticks tells (step slots 0 0 0 none) (v, c))
   compares slots id v c live rests s r len at small =
       let f = r.each id v at in
       let w = comparing v in (
@@ -330,7 +331,7 @@ module _ {W : Type 0} (journal : W → List Entry) (ticks faults : W → ℕ) (a
       (longest x.3)
 
   pub gives_turn : (slots id : ℕ) (v : View) (c : List (ℕ × Option W)) (world : W) → v.live ≡ true → v.holds ≡ true → c ≡ (0, Some world) ∷ [] → journal world ≡ v.held → From (opened_of v) world → (v.held_wanted ≡ false → Asked (opened_of v) world)
-      → Allows R slots id (v, c) 1 (λ _. 0) (λ _. Gives journal ticks faults asked (step slots 1 0 0 none) (v, c) 0)
+      → Allows R slots id (v, c) 1 (λ _. 0) (λ _. Gives journal ticks tells (step slots 1 0 0 none) (v, c) 0)
   gives_turn slots id v c world live h is j t all s r len at small =
       let f = r.each id v at in
       let w = leaving v in (
@@ -345,7 +346,7 @@ module _ {W : Type 0} (journal : W → List Entry) (ticks faults : W → ℕ) (a
       )
 
   pub gives_turn_full : (slots id : ℕ) (v : View) (c : List (ℕ × Option W)) (world : W) → v.live ≡ true → v.holds ≡ true → c ≡ (0, Some world) ∷ [] → journal world ≡ v.held → From (opened_of v) world → (v.held_wanted ≡ false → Asked (opened_of v) world)
-      → Allows R slots id (v, c) 1 (λ _. 0) (λ _. GivesFull journal ticks faults asked (step slots 1 0 0 none) (v, c) 0)
+      → Allows R slots id (v, c) 1 (λ _. 0) (λ _. GivesFull journal ticks tells (step slots 1 0 0 none) (v, c) 0)
   gives_turn_full slots id v c world live h is j t all s r len at small =
       let f = r.each id v at in
       let w = leaving_full v in (
@@ -360,7 +361,7 @@ module _ {W : Type 0} (journal : W → List Entry) (ticks faults : W → ℕ) (a
       )
 
   pub gives_turn_short : (slots id : ℕ) (v : View) (c : List (ℕ × Option W)) (world : W) → v.live ≡ true → v.holds ≡ true → c ≡ (0, Some world) ∷ [] → journal world ≡ v.held → From (opened_of v) world
-      → Allows R slots id (v, c) 1 (λ _. 0) (λ _. GivesShort journal ticks faults asked (step slots 1 0 0 none) (v, c) 0)
+      → Allows R slots id (v, c) 1 (λ _. 0) (λ _. GivesShort journal ticks tells (step slots 1 0 0 none) (v, c) 0)
   gives_turn_short slots id v c world live h is j t s r len at small =
       let f = r.each id v at in
       let w = leaving_short v in (

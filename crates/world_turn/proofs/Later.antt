@@ -4,7 +4,7 @@ use Rattle.base.proofs.Bools.{or_false}
 use mathlib.Core.List.{IsPrefix}
 use Rattle.world_core.specs.Journals.{entry_at}
 use Rattle.world_core.specs.Keeping.{IsFull}
-use Rattle.world_core.specs.Machines.{IfDone, gained, is_full}
+use Rattle.world_core.specs.Machines.{IfDone, gained, is_full, is_wanting}
 use Rattle.world_core.specs.Moments.{moment_after, last_moment}
 use Rattle.world_core.specs.Operations.{IsAnswer, entry_of}
 use Rattle.world_core.specs.declared.op.Op.{Op}
@@ -13,7 +13,7 @@ use Rattle.world_core.specs.declared.act.Acted.{Acted}
 use Rattle.world_core.specs.declared.act.Acted.TheVariants.{Done, Full, NoMemory}
 use Rattle.world_turn.specs.Seats.{Stand}
 use Rattle.world_turn.specs.Steps.{holding}
-use Rattle.world_turn.specs.Turns.{Finds, Acts, is_wanting, settled, front_after, known_after, IsSame, IsLater}
+use Rattle.world_turn.specs.Turns.{Finds, Acts, settled, front_after, known_after, IsSame, IsLater}
 use Rattle.world_turn.specs.declared.view.View.{View}
 use Rattle.world_turn.proofs.Fronts.{front_whole, front_more, front_get}
 

@@ -21,6 +21,7 @@ use mathlib.Core.Option.{none, some}
 use lib.ListN.{get_elem?}
 use Rattle.atomic_table.specs.Table.{State}
 use Rattle.bucket_core.specs.Asking.{Call}
+use Rattle.bucket_core.specs.Told.{BucketTold}
 use Rattle.world_core.specs.Asking.{calls_of, opening}
 use Rattle.world_core.specs.Worlds.{failed_count}
 use Rattle.world_core.specs.declared.entry.Entry.{Entry}
@@ -63,16 +64,16 @@ pub record IsKept (journal : List Entry) (views : List View) (seats : ℕ) (kept
   pub seated : kept.0 < seats
   pub gone : (port : ℕ) (v : View) → get_elem? views port ≡ some v → v.live ≡ true → v.seat ≢ kept.0
 
--- a world is seen by its journal, its tick, and how often its bucket has failed
-module _ {W : Type 0} (journal : W → List Entry) (ticks faults : W → ℕ) where
+-- a world is seen by its journal, its tick, and what is told of its bucket
+module _ {W : Type 0} (journal : W → List Entry) (ticks : W → ℕ) (tells : W → BucketTold) where
   -- The world comes from one that was opened so: its bucket has failed no more often since, unless its journal shows it.
   pub record IsFrom (opened : Opened) (w : W) : Type 0 where
     pub tick : ticks w ≡ opened.tick
-    pub unfailed : failed_count (journal w) ≡ 0 → faults w ≡ opened.faults
+    pub unfailed : failed_count (journal w) ≡ 0 → (tells w).faults ≡ opened.faults
 
 -- All that the bucket was asked is the calls of the journal, if that held of a world that was opened so.
-abbrev pub IsAsked : {W : Type 0} → (W → List Entry) → (W → Option (List Call)) → Opened → W → Type 0
-IsAsked journal asked opened w = (before : List Call) → opened.asked ≡ Some (before ++ opening ∷ []) → asked w ≡ Some (before ++ opening ∷ calls_of (journal w))
+abbrev pub IsAsked : {W : Type 0} → (W → List Entry) → (W → BucketTold) → Opened → W → Type 0
+IsAsked journal tells opened w = (before : List Call) → opened.asked ≡ Some (before ++ opening ∷ []) → (tells w).asked ≡ Some (before ++ opening ∷ calls_of (journal w))
 
 -- this holds of the view at some port
 abbrev pub SomeView : (View → Type 0) → List View → Type 0
@@ -90,8 +91,9 @@ IsSeen front views = SomeView (λ v. (v.live ≡ true) × ((v.front ≡ front) �
 abbrev pub HasSeat : List View → List (ℕ × List Entry) → ℕ → Type 0
 HasSeat views joined seat = SomeView (λ v. (v.live ≡ true) × (v.seat ≡ seat)) views ⊎ Contains (map (λ kept. kept.0) joined) seat
 
--- and by what its bucket was asked
-module _ {W : Type 0} (journal : W → List Entry) (ticks faults : W → ℕ) (asked : W → Option (List Call)) where
+-- ---- the rule
+
+module _ {W : Type 0} (journal : W → List Entry) (ticks : W → ℕ) (tells : W → BucketTold) where
   pub record Rule (opened : Opened) (s : State (Option W) View) : Type 0 where
     pub turn : ℕ
     pub holder : ℕ
@@ -101,7 +103,7 @@ module _ {W : Type 0} (journal : W → List Entry) (ticks faults : W → ℕ) (a
     pub joined : List (ℕ × List Entry)
     pub place : ℕ → ℕ
     pub words : s.words ≡ length log ∷ turn ∷ []
-    pub free : turn ≡ 0 → (w : W) × (s.homes ≡ some (Some w) ∷ []) × (journal w ≡ log) × IsFrom journal ticks faults opened w × (wanted ≡ false → IsAsked journal asked opened w)
+    pub free : turn ≡ 0 → (w : W) × (s.homes ≡ some (Some w) ∷ []) × (journal w ≡ log) × IsFrom journal ticks tells opened w × (wanted ≡ false → IsAsked journal tells opened w)
     pub taken : turn ≢ 0 → (turn ≡ 1) × (s.homes ≡ none ∷ []) × ((v : View) × (get_elem? s.views holder ≡ some v) × (v.holds ≡ true))
     pub each : (port : ℕ) (v : View) → get_elem? s.views port ≡ some v → Fits turn holder wanted opened log seats joined place port v
     pub longest : IsSeen log s.views

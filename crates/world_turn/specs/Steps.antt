@@ -3,6 +3,7 @@ use Rattle.std.specs.Prelude.{◌≡◌, ◌≢◌, ◌||◌, ℕ, ◌+◌, ◌�
 use mathlib.Core.List.{IsPrefix}
 use Rattle.atomic_table.specs.Table.{Me, Step, rest}
 use Rattle.bucket_core.specs.Asking.{Call}
+use Rattle.bucket_core.specs.Told.{BucketTold}
 use Rattle.world_core.specs.declared.entry.Entry.{Entry}
 use Rattle.world_turn.specs.Rule.{IsAsked, IsFrom, opened_of}
 use Rattle.world_core.specs.Journals.{of_seat}
@@ -53,7 +54,7 @@ comparing v = record { live = v.live; seat = v.seat; own = v.own; front = longer
 
 -- Of a step: the pass before it, the number found, and the pass after it. A pass is its view and the slots that are out
 -- with it.
-module _ {W : Type 0} (journal : W → List Entry) (ticks faults : W → ℕ) (asked : W → Option (List Call)) where
+module _ {W : Type 0} (journal : W → List Entry) (ticks : W → ℕ) (tells : W → BucketTold) where
   -- the world that lies in the slot which is out has this journal
   abbrev pub Lies : List (ℕ × Option W) → List Entry → Type 0
   Lies carried log = (w : W) × (carried ≡ (0, Some w) ∷ []) × (journal w ≡ log)
@@ -61,8 +62,8 @@ module _ {W : Type 0} (journal : W → List Entry) (ticks faults : W → ℕ) (a
   -- the world came along, with the journal; or the turn was held, and nothing changed
   abbrev pub Takes : Step (Option W) → Me (Option W) View → ℕ → Me (Option W) View → Type 0
   Takes s me found new =
-      (found ≡ 0 → (w : W) × (new ≡ (holding me.0 (journal w) new.0.held_wanted, (0, Some w) ∷ me.1)) × IsFrom journal ticks faults (opened_of me.0) w
-      × (new.0.held_wanted ≡ false → IsAsked journal asked (opened_of me.0) w)
+      (found ≡ 0 → (w : W) × (new ≡ (holding me.0 (journal w) new.0.held_wanted, (0, Some w) ∷ me.1)) × IsFrom journal ticks tells (opened_of me.0) w
+      × (new.0.held_wanted ≡ false → IsAsked journal tells (opened_of me.0) w)
       × IsPrefix me.0.front (journal w) × (me.0.known ≤ length (journal w)) × (me.0.own ≡ of_seat me.0.seat (journal w)))
       × (found ≢ 0 → new ≡ me)
 

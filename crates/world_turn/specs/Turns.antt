@@ -2,7 +2,7 @@
 use Rattle.std.specs.Prelude.{◌≡◌, ◌↔◌, ◌||◌, false, ℕ, ◌+◌, ◌≤◌, max, Bool, true, List, [], ◌∷◌, ◌++◌, length}
 use mathlib.Core.List.{IsPrefix}
 use Rattle.world_core.specs.Keeping.{IsFull}
-use Rattle.world_core.specs.Machines.{IfDone, gained, is_full}
+use Rattle.world_core.specs.Machines.{IfDone, gained, is_full, is_wanting}
 use Rattle.world_core.specs.Moments.{moment_after, last_moment}
 use Rattle.world_core.specs.Operations.{IsAnswer, entry_of}
 use Rattle.world_core.specs.declared.op.Op.{Op}
@@ -38,11 +38,6 @@ abbrev pub known_after : View → List Entry → Acted → ℕ
 known_after v journal (Done seen) = length journal + 1
 known_after v journal Full = length journal
 known_after v journal NoMemory = v.known
-
--- memory was wanted for the operation
-abbrev pub is_wanting : Acted → Bool
-is_wanting NoMemory = true
-is_wanting other = false
 
 -- What stays of a pass.
 pub record IsSame (v w : View) : Type 0 where

@@ -15,10 +15,10 @@ impl<B: Bucket> TableRule<Option<World<B>>, View, Snapshot<World<B>>> for Turns<
     ghost use Rattle.world_turn.specs.Rule.{Rule, root};
     ghost use Rattle.world_turn.specs.Opening.{opening_of};
 
-    ghost holds = { λ opened. Rule (λ w. w.journal) (λ w. w.tick) (λ w. B.faults w.bucket)
-        (λ w. B.asked w.bucket) (opening_of B.faults B.asked opened.value) };
+    ghost holds = { λ opened. Rule (λ w. w.journal) (λ w. w.tick) (λ w. B.told w.bucket)
+        (opening_of B.told opened.value) };
 
-    ghost first = { λ opened. root (opening_of B.faults B.asked opened.value) };
+    ghost first = { λ opened. root (opening_of B.told opened.value) };
 }
 
 /// The turn is taken where it was free.
@@ -27,8 +27,7 @@ pub(crate) struct Take;
 impl<B: Bucket> Play<Option<World<B>>, View> for Take {
     ghost use Rattle.world_turn.specs.Steps.{Takes};
 
-    ghost then = { Takes (λ w. w.journal) (λ w. w.tick) (λ w. B.faults w.bucket)
-        (λ w. B.asked w.bucket) };
+    ghost then = { Takes (λ w. w.journal) (λ w. w.tick) (λ w. B.told w.bucket) };
 }
 
 /// An entry is counted.
@@ -37,8 +36,7 @@ pub(crate) struct Append;
 impl<B: Bucket> Play<Option<World<B>>, View> for Append {
     ghost use Rattle.world_turn.specs.Steps.{Appends};
 
-    ghost then = { Appends (λ w. w.journal) (λ w. w.tick) (λ w. B.faults w.bucket)
-        (λ w. B.asked w.bucket) };
+    ghost then = { Appends (λ w. w.journal) (λ w. w.tick) (λ w. B.told w.bucket) };
 }
 
 /// The turn is given back.
@@ -47,8 +45,7 @@ pub(crate) struct Give;
 impl<B: Bucket> Play<Option<World<B>>, View> for Give {
     ghost use Rattle.world_turn.specs.Steps.{Gives};
 
-    ghost then = { Gives (λ w. w.journal) (λ w. w.tick) (λ w. B.faults w.bucket)
-        (λ w. B.asked w.bucket) };
+    ghost then = { Gives (λ w. w.journal) (λ w. w.tick) (λ w. B.told w.bucket) };
 }
 
 /// The turn is given back by a pass that has seen the whole journal.
@@ -57,8 +54,7 @@ pub(crate) struct GiveFull;
 impl<B: Bucket> Play<Option<World<B>>, View> for GiveFull {
     ghost use Rattle.world_turn.specs.Steps.{GivesFull};
 
-    ghost then = { GivesFull (λ w. w.journal) (λ w. w.tick) (λ w. B.faults w.bucket)
-        (λ w. B.asked w.bucket) };
+    ghost then = { GivesFull (λ w. w.journal) (λ w. w.tick) (λ w. B.told w.bucket) };
 }
 
 /// The turn is given back by a pass for whose operation memory was wanted.
@@ -67,8 +63,7 @@ pub(crate) struct GiveShort;
 impl<B: Bucket> Play<Option<World<B>>, View> for GiveShort {
     ghost use Rattle.world_turn.specs.Steps.{GivesShort};
 
-    ghost then = { GivesShort (λ w. w.journal) (λ w. w.tick) (λ w. B.faults w.bucket)
-        (λ w. B.asked w.bucket) };
+    ghost then = { GivesShort (λ w. w.journal) (λ w. w.tick) (λ w. B.told w.bucket) };
 }
 
 /// The entries are counted.
@@ -77,8 +72,7 @@ pub(crate) struct Look;
 impl<B: Bucket> Play<Option<World<B>>, View> for Look {
     ghost use Rattle.world_turn.specs.Steps.{Counts};
 
-    ghost then = { Counts (λ w. w.journal) (λ w. w.tick) (λ w. B.faults w.bucket)
-        (λ w. B.asked w.bucket) };
+    ghost then = { Counts (λ w. w.journal) (λ w. w.tick) (λ w. B.told w.bucket) };
 }
 
 /// The root compares a front that it took in with its own.
@@ -87,8 +81,7 @@ pub(crate) struct Compare;
 impl<B: Bucket> Play<Option<World<B>>, View> for Compare {
     ghost use Rattle.world_turn.specs.Steps.{Compares};
 
-    ghost then = { Compares (λ w. w.journal) (λ w. w.tick) (λ w. B.faults w.bucket)
-        (λ w. B.asked w.bucket) };
+    ghost then = { Compares (λ w. w.journal) (λ w. w.tick) (λ w. B.told w.bucket) };
 }
 
 /// The root makes a seat, or takes one in.

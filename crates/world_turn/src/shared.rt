@@ -1,13 +1,16 @@
+//! A world that threads share by turns: whoever has the turn takes the world, does one operation on it and lays it
+//! back. A worker has a pass, of which proofs know what the journal had at least when it was used last.
+
 ghost use Rattle.std.specs.Prelude.{◌≡◌, false, List, ℕ, ◌+◌, ◌<◌, ◌^◌, ◌-◌, [], ◌∷◌, Some, None, IfOk, IfErr, MatchResult};
 ghost use Rattle.bucket_core.specs.Asking.{Call};
 ghost use Rattle.world_core.specs.Asking.{IsAllAsked};
-ghost use Rattle.world_core.specs.Machines.{is_full};
+ghost use Rattle.world_core.specs.Machines.{is_full, is_wanting};
 ghost use Rattle.world_core.specs.Operations.{IsLawful};
 ghost use Rattle.world_turn.specs.Closing.{AllJoined, Closes};
 ghost use Rattle.world_turn.specs.Opening.{ComesFrom, opening_of};
 ghost use Rattle.world_turn.specs.Passes.{table_of, view_of};
 ghost use Rattle.world_turn.specs.Rule.{root};
-ghost use Rattle.world_turn.specs.Turns.{Acts, IsLater, IsNew, IsSplit, IsJoined, Looks, is_wanting};
+ghost use Rattle.world_turn.specs.Turns.{Acts, IsLater, IsNew, IsSplit, IsJoined, Looks};
 
 use crate::plays::{Compare, Look, Seating, Turns};
 use crate::view::View;
@@ -45,7 +48,7 @@ impl<B: Bucket> Shared<B> {
         requires { world.journal ≡ [] }
         ensures pass { IfOk result (λ r. (table_of r.1 ≡ r.0.table.shared.table_id)
             × (r.1.seat ≡ 0) × (r.1.splits ≡ 0)
-            × (view_of r.1 ≡ root (opening_of B.faults B.asked world))) }
+            × (view_of r.1 ≡ root (opening_of B.told world))) }
         ensures opened { IfOk result (λ r. r.0.table.shared.key.value ≡ world) }
         ensures err { IfErr result (λ e. e.1 ≡ world) }
     {
@@ -208,13 +211,13 @@ impl<B: Bucket> Shared<B> {
         requires all { AllJoined (view_of root) }
         ensures root { result.root.value ≡ root }
         ensures closes { Closes (view_of root) result.world.tick result.world.journal }
-        ensures comes { ComesFrom B.faults (opening_of B.faults B.asked self.table.shared.key.value)
+        ensures comes { ComesFrom B.told (opening_of B.told self.table.shared.key.value)
             result.world }
 
         // If all that the bucket was asked was journaled as the world was opened, it still is, unless memory was wanted.
         ensures all { (view_of root).wanted ≡ false → (before : List Call)
-            → IsAllAsked B.asked before self.table.shared.key.value
-            → IsAllAsked B.asked before result.world }
+            → IsAllAsked B.told before self.table.shared.key.value
+            → IsAllAsked B.told before result.world }
     {
         let known = Snapshot::of(&root);
         let Shared { table } = self;

@@ -12,9 +12,9 @@ use crate::Shared;
 use crate::plays::{Append, Give, GiveFull, GiveShort, Take};
 use crate::shared::{COUNT, Place, TURN};
 use bucket_core::Bucket;
+use crossbeam_utils::Backoff;
 use std::snapshot::Snapshot;
 use std::sync::Wait;
-use std::{hint, thread};
 use world_core::{Acted, Op, World};
 
 /// The one slot of the table, in which the world lies.
@@ -25,9 +25,6 @@ const FREE: u64 = 0;
 
 const HELD: u64 = 1;
 
-/// So many rounds a pass spins while another has the turn. From then on it yields its processor in each round.
-const SPINS: u32 = 64;
-
 impl<B: Bucket> Shared<B> {
     /// Takes the turn, and the world with it.
     pub(crate) fn take_turn<R: Wait>(&self, rt: &R, place: &mut Place<B>) -> World<B>
@@ -35,12 +32,12 @@ impl<B: Bucket> Shared<B> {
         requires rests { (place.old.me.1 ≡ []) × (place.old.me.0.live ≡ true) }
         ensures same { (place.new.table_id ≡ place.old.table_id) × (place.new.id ≡ place.old.id) }
         ensures finds { Finds place.old.me.0 result.journal }
-        ensures comes { ComesFrom B.faults (opened_of place.old.me.0) result }
+        ensures comes { ComesFrom B.told (opened_of place.old.me.0) result }
         ensures holds { (wanted : Bool)
             × (place.new.me ≡ (holding place.old.me.0 result.journal wanted, (0, None) ∷ []))
-            × (wanted ≡ false → AsksFrom B.asked (opened_of place.old.me.0) result) }
+            × (wanted ≡ false → AsksFrom B.told (opened_of place.old.me.0) result) }
     {
-        let mut spins = 0u32;
+        let backoff = Backoff::new();
         for _ in rt.forever() {
             if self
                 .table
@@ -50,7 +47,7 @@ impl<B: Bucket> Shared<B> {
             {
                 return self.lift(place);
             }
-            spins = back_off(spins);
+            backoff.snooze();
         }
         unreachable!()
     }
@@ -89,9 +86,9 @@ impl<B: Bucket> Shared<B> {
         requires worked { (w : World B) × (place.old.me.1 ≡ (0, Some w) ∷ [])
             × (w.journal
             ≡ place.old.me.0.held ++ gained place.old.me.0.seat asked.now.value acted.now)
-            × ComesFrom B.faults (opened_of place.old.me.0) w × (length w.journal ≤ most_entries)
+            × ComesFrom B.told (opened_of place.old.me.0) w × (length w.journal ≤ most_entries)
             × (acted.now ≢ Acted.NoMemory → place.old.me.0.held_wanted ≡ false
-            → AsksFrom B.asked (opened_of place.old.me.0) w) }
+            → AsksFrom B.told (opened_of place.old.me.0) w) }
         ensures same { (place.new.table_id ≡ place.old.table_id) × (place.new.id ≡ place.old.id) }
         ensures settled { place.new.me ≡ (settled place.old.me.0 asked.now.value acted.now, []) }
     {
@@ -125,47 +122,36 @@ impl<B: Bucket> Shared<B> {
         requires own { place.old.table_id ≡ self.now.table.shared.table_id }
         requires holds { (place.old.me.0.live ≡ true) × (place.old.me.0.holds ≡ true) }
         requires lies { (w : World B) × (place.old.me.1 ≡ (0, Some w) ∷ [])
-            × (w.journal ≡ place.old.me.0.held) × ComesFrom B.faults (opened_of place.old.me.0) w
-            × (place.old.me.0.held_wanted ≡ false → AsksFrom B.asked (opened_of place.old.me.0) w) }
+            × (w.journal ≡ place.old.me.0.held) × ComesFrom B.told (opened_of place.old.me.0) w
+            × (place.old.me.0.held_wanted ≡ false → AsksFrom B.told (opened_of place.old.me.0) w) }
         ensures same { (place.new.table_id ≡ place.old.table_id) × (place.new.id ≡ place.old.id) }
         ensures gives { place.new.me ≡ (leaving place.old.me.0, []) }
     {
         self.table.shared.store::<Give>(place, TURN, FREE);
     }
 
-    /// The same, and the pass has seen the whole journal.
+    /// Gives the turn back, and the world with it, where the pass has seen the whole journal.
     fn give_full(&self, place: &mut Place<B>)
         requires own { place.old.table_id ≡ self.now.table.shared.table_id }
         requires holds { (place.old.me.0.live ≡ true) × (place.old.me.0.holds ≡ true) }
         requires lies { (w : World B) × (place.old.me.1 ≡ (0, Some w) ∷ [])
-            × (w.journal ≡ place.old.me.0.held) × ComesFrom B.faults (opened_of place.old.me.0) w
-            × (place.old.me.0.held_wanted ≡ false → AsksFrom B.asked (opened_of place.old.me.0) w) }
+            × (w.journal ≡ place.old.me.0.held) × ComesFrom B.told (opened_of place.old.me.0) w
+            × (place.old.me.0.held_wanted ≡ false → AsksFrom B.told (opened_of place.old.me.0) w) }
         ensures same { (place.new.table_id ≡ place.old.table_id) × (place.new.id ≡ place.old.id) }
         ensures gives { place.new.me ≡ (leaving_full place.old.me.0, []) }
     {
         self.table.shared.store::<GiveFull>(place, TURN, FREE);
     }
 
-    /// The same, and memory was wanted.
+    /// Gives the turn back, and the world with it, where memory was wanted.
     fn give_short(&self, place: &mut Place<B>)
         requires own { place.old.table_id ≡ self.now.table.shared.table_id }
         requires holds { (place.old.me.0.live ≡ true) × (place.old.me.0.holds ≡ true) }
         requires lies { (w : World B) × (place.old.me.1 ≡ (0, Some w) ∷ [])
-            × (w.journal ≡ place.old.me.0.held) × ComesFrom B.faults (opened_of place.old.me.0) w }
+            × (w.journal ≡ place.old.me.0.held) × ComesFrom B.told (opened_of place.old.me.0) w }
         ensures same { (place.new.table_id ≡ place.old.table_id) × (place.new.id ≡ place.old.id) }
         ensures gives { place.new.me ≡ (leaving_short place.old.me.0, []) }
     {
         self.table.shared.store::<GiveShort>(place, TURN, FREE);
-    }
-}
-
-/// Waits a moment, and counts the rounds that were spun.
-fn back_off(spins: u32) -> u32 {
-    if spins < SPINS {
-        hint::spin_loop();
-        spins + 1
-    } else {
-        thread::yield_now();
-        spins
     }
 }

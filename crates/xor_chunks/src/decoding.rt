@@ -1,3 +1,6 @@
+//! XOR data back to samples. Prometheus leaves a whole byte of zeros behind where the bits end at a byte's edge, so
+//! stored data is read with it; what `encode` writes never has one, and `decode` takes none.
+
 ghost use Rattle.std.specs.Prelude.{◌≡◌, ◌+◌, ◌≤◌, ◌*◌, ◌⊎◌, ◌++◌, ◌∷◌, [], length, List, IfOk, MatchResult, Ok, Err};
 ghost use Rattle.std.specs.Result.{IsOkAnd};
 ghost use Rattle.label_sets.specs.declared.sample.Sample.{Sample};

@@ -1,3 +1,6 @@
+//! Samples as XOR data: a time costs how much its step has changed, and a value the bits that did. So a series that is
+//! scraped evenly and does not change takes two bits a sample.
+
 ghost use Rattle.std.specs.Prelude.{◌≡◌, ◌++◌, ◌∷◌, ℕ, pos, negsuc, ◌≤ℤ◌, ◌<ℤ◌, ◌-ℤ◌, ◌^◌, ◌<◌, ◌≤◌, length, IfOk, OnOk, bit_xor};
 ghost use Rattle.xor_chunks.specs.Widths.{wide_field, change_limit, filling};
 ghost use Rattle.xor_chunks.specs.Written.{fits_field, change_bits, reused, value_bits, window_after, CanFollow, put_after, next_bits, AreToCome, ArePatterns, others_bits, rest_bits, put_first, written, AreOfChunk};

@@ -1,3 +1,6 @@
+//! How a sample is told from the one before it. All reading of chunks comes down to this, so one look at the next bits
+//! mostly tells time and value, 64 bits hold the sums, and rare cases go through calls.
+
 ghost use Rattle.std.specs.Prelude.{◌≡◌, pos, negsuc, ◌+ℤ◌, ◌-ℤ◌, ◌≤ℤ◌, ◌<◌, ◌≤◌, ◌+◌, ◌-◌, ◌/◌, ◌%◌, ◌^◌, ℕ, ℤ, Bool, List, Ok, if◌then◌else◌, nat_lt, IsTrue, IfOk, IfSome, IfNone};
 ghost use Rattle.base.specs.Reading.{Answers};
 ghost use Rattle.wire_bytes.specs.Fields.{field_value};

@@ -18,11 +18,11 @@ pub(crate) const WIDTH_FIELD: u32 = 6;
 /// What stands in front of a value's bits, at most: two bits that say what follows, and a window's lead and width.
 pub(crate) const HEAD_LIMIT: u32 = 13;
 
-/// The same behind a change that stands in one of the first three fields, with the bits that say in which.
+/// What stands in front of a value's bits, at most, with a change in one of the first three fields and the bits that say in which.
 pub(crate) const PEEKED: u32 = 37;
 
 /// The zero bits that fill the last byte of data, at most.
 pub(crate) const FILLING: u32 = 7;
 
-/// The same of data as Prometheus stores it, which may end with a byte of zeros more.
+/// The zero bits at the end of data as Prometheus stores it, at most: a byte of zeros may stand behind those that fill the last one.
 pub(crate) const STORED_FILLING: u32 = 8;

@@ -1,3 +1,6 @@
+//! The bits of a value that differ from the value before it. A change that lies within the last window is written
+//! without telling a window anew; before one is told it is all 64 bits, as Prometheus goes on after a restart.
+
 ghost use Rattle.std.specs.Prelude.{◌≡◌, ◌<◌, ◌≤◌, ◌+◌, ◌/◌, ◌^◌};
 
 use std::marker::Model;

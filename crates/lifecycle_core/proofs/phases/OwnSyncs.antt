@@ -1,7 +1,7 @@
 -- Where a gateway's tasks have come to their ends, each of its syncs that gave a view is one of them. So the view that it holds is
 -- that of its last sync that gave one.
 use Rattle.base.proofs.Membership.{contains_first, into_filter, member_cases, no_member, of_filter, of_map}
-use Rattle.std.proofs.Common.{◌≡◌, ◌≢◌, ◌⊎◌, inl, inr, ℕ, ◌+◌, ◌<◌, ◌≤◌, ◌==◌, List, [], ◌∷◌, ◌++◌, length, map, Contains, Option, Some, None, refl, sym, ◌∙◌, ap, subst, append_assoc, append-nil, arith}
+use Rattle.std.proofs.Common.{◌≡◌, ◌≢◌, ◌⊎◌, inl, inr, ℕ, ◌+◌, ◌<◌, ◌≤◌, ◌==◌, IsTrue, List, [], ◌∷◌, ◌++◌, length, map, Contains, Option, Some, None, refl, sym, ◌∙◌, ap, subst, append_assoc, append-nil, arith}
 use Rattle.std.specs.Prelude.{option_map}
 use Rattle.std.specs.List.{All}
 use Rattle.std.proofs.lemmas.Bool.{cases_lt}
@@ -23,6 +23,7 @@ use Rattle.store_calls.proofs.CallLaws.{call_asks}
 use Rattle.script_core.specs.Lawful.{IsLawfulScript}
 use Rattle.script_core.specs.Workers.{workers_of}
 use Rattle.script_workers.specs.declared.task.Task.{Task}
+use Rattle.script_workers.specs.Works.{asks_all}
 use Rattle.script_workers.specs.declared.work.Work.{Work}
 use Rattle.script_workers.specs.declared.work.Work.TheVariants.{Upload, Sync, Compact, Clean, Query}
 use Rattle.script_workers.specs.declared.worker.Worker.{Worker}
@@ -56,6 +57,13 @@ IsFitFor by (Sync gateway) = by ≡ Some gateway
 IsFitFor by (Compact stop) = by ≡ None
 IsFitFor by (Clean stop) = by ≡ None
 IsFitFor by (Query low high selector) = Unit {0}
+
+pub asking_fits : (by : Option ℕ) (w : Work) → IsTrue (asks_all w) → IsFitFor by w
+asking_fits by (Upload ulid stop) is = absurd (cc (is))
+asking_fits by (Sync gateway) is = absurd (cc (is))
+asking_fits by (Compact stop) is = absurd (cc (is))
+asking_fits by (Clean stop) is = absurd (cc (is))
+asking_fits by (Query low high selector) is = tt
 
 -- the entry reads the index or the segments of a block
 abbrev pub ReadsABlock : Entry → Type 0

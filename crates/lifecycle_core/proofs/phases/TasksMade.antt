@@ -14,12 +14,13 @@ use Rattle.script_core.specs.Lawful.{IsLawfulScript}
 use Rattle.script_core.specs.Workers.{seats_before, workers_of}
 use Rattle.script_core.proofs.SeatLaws.{workers_at}
 use Rattle.script_workers.specs.Hands.{gateway_count, gateway_of, hands_of, places_from, seats_after, worker_of, workers_from}
-use Rattle.script_workers.specs.Whose.{IsFor, IsTaskOf, asks, cleans, compacts, ships, syncs}
+use Rattle.script_workers.specs.Whose.{IsFor, IsTaskOf, does_alone, asks, syncs}
 use Rattle.script_workers.proofs.StaffLaws.{are_places}
 use Rattle.script_workers.specs.declared.hand.Hand.{Hand}
 use Rattle.script_workers.specs.declared.phase.Phase.{Phase}
 use Rattle.script_workers.specs.declared.task.Task.{Task}
 use Rattle.script_workers.specs.declared.work.Work.{Work}
+use Rattle.script_workers.specs.declared.work.Work.TheVariants as works
 use Rattle.script_workers.specs.declared.work.Work.TheVariants.{Sync}
 use Rattle.script_workers.specs.declared.worker.Worker.{Worker}
 use Rattle.lifecycle_core.specs.Breaches.{IsSeatOf}
@@ -37,7 +38,7 @@ use Rattle.lifecycle_core.specs.Phases.{IsInTurn, IsRunOf, by_script, by_workers
 use Rattle.lifecycle_core.specs.Setting.{Setting}
 use Rattle.lifecycle_core.specs.Tasks.{End, TaskRun, last_number, sync_rules}
 use Rattle.lifecycle_core.specs.Ways.{AreInTurn, PhasesRun}
-use Rattle.lifecycle_core.proofs.phases.OwnSyncs.{AreQuiet, IsFitFor, IsLatest, IsLatestAt, IsLone, NoneOver, ReadsABlock, latest_at, latest_behind, latest_in, latest_none, latest_past, latest_stays, lone_in, none_over, quiet_clock, quiet_next}
+use Rattle.lifecycle_core.proofs.phases.OwnSyncs.{AreQuiet, IsFitFor, asking_fits, IsLatest, IsLatestAt, IsLone, NoneOver, ReadsABlock, latest_at, latest_behind, latest_in, latest_none, latest_past, latest_stays, lone_in, none_over, quiet_clock, quiet_next}
 use Rattle.lifecycle_core.proofs.phases.PhaseViews.{views_left}
 use Rattle.lifecycle_core.proofs.journals.Positions.{zipped}
 pub use Rattle.lifecycle_core.proofs.phases.Stretches.{all_of_seat, no_listing, part_filter, part_left, part_middle, part_right, part_whole, rises_filter, rises_left, rises_right}
@@ -63,11 +64,13 @@ all_fitting by tasks (p ∷ places) (own ∷ found) each at = (
 )
 
 fit_for : (gateways : ℕ) (hand : Hand) (place : ℕ) (w : Work) (by : Option ℕ) → by ≡ gateway_of hand → IsFor gateways hand place w → IsFitFor by w
-fit_for gateways hand place w by is (ships ulid stop work own) = subst (IsFitFor by) (sym work) (is ∙ ap gateway_of own)
-fit_for gateways hand place w by is (compacts stop work own) = subst (IsFitFor by) (sym work) (is ∙ ap gateway_of own)
-fit_for gateways hand place w by is (cleans stop work own) = subst (IsFitFor by) (sym work) (is ∙ ap gateway_of own)
+fit_for gateways hand place (works.Upload ulid stop) by is (does_alone none apart own) = is ∙ ap gateway_of own
+fit_for gateways hand place (works.Compact stop) by is (does_alone none apart own) = is ∙ ap gateway_of own
+fit_for gateways hand place (works.Clean stop) by is (does_alone none apart own) = is ∙ ap gateway_of own
+fit_for gateways hand place (works.Sync gateway) by is (does_alone none apart own) = absurd (apart gateway refl)
+fit_for gateways hand place (works.Query low high selector) by is (does_alone none apart own) = absurd (cc (none))
 fit_for gateways hand place w by is (syncs gateway work own) = subst (IsFitFor by) (sym work) (is ∙ ap gateway_of own)
-fit_for gateways hand place w by is (asks low high selector gateway work own below) = subst (IsFitFor by) (sym work) tt
+fit_for gateways hand place w by is (asks gateway asking own below) = asking_fits by w asking
 
 -- each worker of a list of hands is one of them
 hand_of : (gateways before : ℕ) (tasks : List Task) (hs : List Hand) (worker : Worker) → Contains (workers_from gateways before tasks hs) worker

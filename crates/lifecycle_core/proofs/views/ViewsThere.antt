@@ -2,7 +2,7 @@
 -- all syncs of the one before have come to their ends.
 use Rattle.base.proofs.Membership.{contains_first, contains_later}
 use Rattle.base.proofs.Pairs.{AllZip-first, AllZip-second}
-use Rattle.std.proofs.Common.{◌≡◌, ◌≢◌, ◌⊎◌, inl, inr, ℕ, ℤ, zero, suc, ◌+◌, ◌<◌, ◌≤◌, ◌==◌, ◌||◌, Bool, true, false, cond, List, [], ◌∷◌, ◌++◌, length, Contains, Option, Some, None, refl, sym, ◌∙◌, ap, subst, arith}
+use Rattle.std.proofs.Common.{◌≡◌, ◌≢◌, ◌⊎◌, inl, inr, ℕ, zero, suc, ◌+◌, ◌<◌, ◌≤◌, ◌==◌, ◌||◌, Bool, IsTrue, true, false, cond, List, [], ◌∷◌, ◌++◌, length, Contains, Option, Some, None, refl, sym, ◌∙◌, ap, subst, arith}
 use Rattle.std.specs.Prelude.{slice_get, option_map}
 use Rattle.std.specs.List.{All, AllByRecursion, AllZip, list_any}
 use Rattle.std.proofs.Math.Bool.{or-false, or_assoc}
@@ -18,8 +18,8 @@ use Rattle.store_ranges.specs.Reads.{Query as Question}
 use Rattle.script_workers.specs.Hands.{does, gateway_count, gateway_of, greatest, hands_of, places_from, same_hand, seats_after, worker_of, workers_from}
 use Rattle.script_core.specs.Workers.{seats_before, workers_after, workers_of}
 use Rattle.script_core.specs.Lawful.{IsLawfulScript}
-use Rattle.script_workers.specs.Whose.{AreEnough, IsFor, ships, compacts, cleans, syncs, asks}
-use Rattle.script_workers.specs.Works.{has_sync, is_sync_of, works_in, works_of}
+use Rattle.script_workers.specs.Whose.{AreEnough, IsFor, does_alone, syncs, asks}
+use Rattle.script_workers.specs.Works.{asks_all, has_sync, is_sync_of, works_in, works_of}
 use Rattle.script_workers.specs.declared.hand.Hand.{Hand}
 use Rattle.script_workers.specs.declared.hand.Hand.TheVariants as hands
 use Rattle.script_workers.specs.declared.phase.Phase.{Phase}
@@ -62,38 +62,30 @@ or_none : (a b : Bool) → b ≡ false → (a || b) ≡ true → a ≡ true
 or_none true b is h = refl
 or_none false b is h = absurd (cc (is, h))
 
--- ---- syncs before queries
+-- ---- syncs before what asks all gateways
 
--- a query
-abbrev IsQuery : Work → Type 0
-IsQuery (Upload ulid stop) = ⊥
-IsQuery (Sync own) = ⊥
-IsQuery (Compact stop) = ⊥
-IsQuery (Clean stop) = ⊥
-IsQuery (Query low high selector) = Unit {0}
+-- a task that asks all gateways
+abbrev IsAsking : Work → Type 0
+IsAsking w = IsTrue (asks_all w)
 
 module _ (count g : ℕ) where
-  -- a query comes only after a sync of the gateway, which may have been seen before
+  -- such a task comes only after a sync of the gateway, which may have been seen before
   abbrev AreSynced : Bool → List Work → Type 0
   AreSynced seen [] = Unit {0}
-  AreSynced seen (w ∷ works) = (IsQuery w → g < count → seen ≡ true) × AreSynced (seen || is_sync_of g w) works
+  AreSynced seen (w ∷ works) = (IsAsking w → g < count → seen ≡ true) × AreSynced (seen || is_sync_of g w) works
 
-  -- the same, said of each place where a query stands
+  -- the same, said of each place where such a task stands
   abbrev AreOrdered : Bool → List Work → Type 0
-  AreOrdered seen works = (before after : List Work) (low high : ℤ) (selector : ℕ) → works ≡ before ++ Query low high selector ∷ after → g < count → (seen || has_sync before g) ≡ true
+  AreOrdered seen works = (before after : List Work) (work : Work) → works ≡ before ++ work ∷ after → IsAsking work → g < count → (seen || has_sync before g) ≡ true
 
-  first_synced : (seen : Bool) (w : Work) (works : List Work) → AreOrdered seen (w ∷ works) → IsQuery w → g < count → seen ≡ true
-  first_synced seen (Upload ulid stop) works ordered is below = absurd is
-  first_synced seen (Sync own) works ordered is below = absurd is
-  first_synced seen (Compact stop) works ordered is below = absurd is
-  first_synced seen (Clean stop) works ordered is below = absurd is
-  first_synced seen (Query low high selector) works ordered is below = or_none seen false refl (ordered [] works low high selector refl below)
+  first_synced : (seen : Bool) (w : Work) (works : List Work) → AreOrdered seen (w ∷ works) → IsAsking w → g < count → seen ≡ true
+  first_synced seen w works ordered is below = or_none seen false refl (ordered [] works w refl is below)
 
   are_synced : (seen : Bool) (works : List Work) → AreOrdered seen works → AreSynced seen works
   are_synced seen [] ordered = tt
   are_synced seen (w ∷ works) ordered = (
     first_synced seen w works ordered,
-    are_synced (seen || is_sync_of g w) works (λ before after low high selector is below. or_assoc seen (is_sync_of g w) (has_sync before g) ∙ ordered (w ∷ before) after low high selector (ap (λ l. w ∷ l) is) below),
+    are_synced (seen || is_sync_of g w) works (λ before after work at is below. or_assoc seen (is_sync_of g w) (has_sync before g) ∙ ordered (w ∷ before) after work (ap (λ l. w ∷ l) at) is below),
   )
 
   synced_parts : (seen : Bool) (xs ys : List Work) → AreSynced seen (xs ++ ys) → AreSynced seen xs × AreSynced (seen || has_sync xs g) ys
@@ -128,7 +120,7 @@ part_end setting selector None before after made end has ((nil, inr same), left)
 part_end setting selector (Some ask) before after made end has run = query_end before.used (question_of setting selector ask) before after made end has run
 
 -- with a view where one is needed, no task ends for want of one
-ends_well : (setting : Setting) (who : Who) (place : ℕ) (w : Work) (held after : Holding) (made : List Entry) (end : End) → GivesView end → (IsQuery w → HasView held) → TaskRun setting who place w held made (Some end) after → end ≢ without_view
+ends_well : (setting : Setting) (who : Who) (place : ℕ) (w : Work) (held after : Holding) (made : List Entry) (end : End) → GivesView end → (IsAsking w → HasView held) → TaskRun setting who place w held made (Some end) after → end ≢ without_view
 ends_well setting who place (Upload ulid stop) held after made end good known ((block, is, shipped), left) =
     ship_end (λ (x : End). x ≢ without_view) setting block stop made end (λ objects own run no. cc (no)) (λ cause no. cc (no)) (λ n no. cc (no)) shipped
 ends_well setting who place (Sync gateway) held after made end good known (own, run, is, left) = (sync_end held after made end own good is left).1
@@ -136,7 +128,7 @@ ends_well setting who place (Compact stop) held after made end good known (run, 
     stopped_end (λ (x : End). x ≢ without_view) (compaction setting.script.rules) compacted stop made end (λ own run no. cc (no)) (λ n no. cc (no)) run
 ends_well setting who place (Clean stop) held after made end good known (run, left) =
     stopped_end (λ (x : End). x ≢ without_view) (cleaning setting.script.rules) cleaned stop made end (λ own run no. cc (no)) (λ n no. cc (no)) run
-ends_well setting who place (Query low high selector) held after made end good known run = part_end setting selector (ask_to setting who.gateway low high) held after made end (known tt) run
+ends_well setting who place (Query low high selector) held after made end good known run = part_end setting selector (ask_to setting who.gateway low high) held after made end (known refl) run
 
 -- and a view is there after it where a sync was seen before it, or it is one
 leaves_well : (setting : Setting) (g : ℕ) (seen : Bool) (who : Who) (place : ℕ) (w : Work) (held after : Holding) (made : List Entry) (end : End) → GivesView end → (seen ≡ true → HasView held) → TaskRun setting who place w held made (Some end) after → (seen || is_sync_of g w) ≡ true
@@ -166,19 +158,15 @@ not_own gateways g place (Compact stop) is = refl
 not_own gateways g place (Clean stop) is = refl
 not_own gateways g place (Query low high selector) is = refl
 
-for_query : (gateways g place : ℕ) (w : Work) → IsFor gateways (hands.Gateway g) place w → IsQuery w → g < gateways
-for_query gateways g place w (ships ulid stop is who) query = absurd (cc (who))
-for_query gateways g place w (compacts stop is who) query = absurd (cc (who))
-for_query gateways g place w (cleans stop is who) query = absurd (cc (who))
-for_query gateways g place w (syncs gateway is who) query = absurd (subst IsQuery is query)
-for_query gateways g place w (asks low high selector gateway is who below) query = let same : g ≡ gateway = cc (who) in subst (λ n. n < gateways) (sym same) below
+for_asking : (gateways g place : ℕ) (w : Work) → IsFor gateways (hands.Gateway g) place w → IsAsking w → g < gateways
+for_asking gateways g place w (does_alone none apart who) query = absurd (cc (who))
+for_asking gateways g place w (syncs gateway is who) query = absurd (cc (subst IsAsking is query))
+for_asking gateways g place w (asks gateway is who below) query = let same : g ≡ gateway = cc (who) in subst (λ n. n < gateways) (sym same) below
 
-for_alone : (gateways p place : ℕ) (w : Work) → IsFor gateways (hands.Alone p) place w → IsQuery w → ⊥
-for_alone gateways p place w (ships ulid stop is who) query = subst IsQuery is query
-for_alone gateways p place w (compacts stop is who) query = subst IsQuery is query
-for_alone gateways p place w (cleans stop is who) query = subst IsQuery is query
-for_alone gateways p place w (syncs gateway is who) query = subst IsQuery is query
-for_alone gateways p place w (asks low high selector gateway is who below) query = absurd (cc (who))
+for_alone : (gateways p place : ℕ) (w : Work) → IsFor gateways (hands.Alone p) place w → IsAsking w → ⊥
+for_alone gateways p place w (does_alone none apart who) query = cc (none, query)
+for_alone gateways p place w (syncs gateway is who) query = cc (subst IsAsking is query)
+for_alone gateways p place w (asks gateway is who below) query = absurd (cc (who))
 
 -- the tasks of a hand, from a place on
 unfoldable owned : ℕ → Hand → ℕ → List Task → List Assigned
@@ -221,22 +209,22 @@ not_in (end ∷ ends) none among = absurd (cc (none))
 
 module _ (setting : Setting) where
   -- no task among these asks
-  abbrev NoQuery : List Assigned → Type 0
-  NoQuery own = AllByRecursion (λ (t : Assigned). IsQuery t.task.work → ⊥) own
+  abbrev NoneAsking : List Assigned → Type 0
+  NoneAsking own = AllByRecursion (λ (t : Assigned). IsAsking t.task.work → ⊥) own
 
-  no_query_by : (task : Assigned) (others : List Assigned) (b : Bool) → (b ≡ true → IsQuery task.task.work → ⊥) → NoQuery others → NoQuery (cond b (task ∷ others) others)
-  no_query_by task others true one rest = (one refl, rest)
-  no_query_by task others false one rest = rest
+  none_asking_by : (task : Assigned) (others : List Assigned) (b : Bool) → (b ≡ true → IsAsking task.task.work → ⊥) → NoneAsking others → NoneAsking (cond b (task ∷ others) others)
+  none_asking_by task others true one rest = (one refl, rest)
+  none_asking_by task others false one rest = rest
 
-  no_query : (gateways p base : ℕ) (tasks : List Task) → NoQuery (owned gateways (hands.Alone p) base tasks)
+  none_asking : (gateways p base : ℕ) (tasks : List Task) → NoneAsking (owned gateways (hands.Alone p) base tasks)
   unfolding owned
-  no_query gateways p base [] = tt
-  no_query gateways p base (task ∷ tasks) =
-      no_query_by (record { place = base; task = task }) (owned gateways (hands.Alone p) (base + 1) tasks) (does gateways (hands.Alone p) base task.work) (λ is. for_alone gateways p base task.work (does_for gateways (hands.Alone p) base task.work is))
-      (no_query gateways p (base + 1) tasks)
+  none_asking gateways p base [] = tt
+  none_asking gateways p base (task ∷ tasks) =
+      none_asking_by (record { place = base; task = task }) (owned gateways (hands.Alone p) (base + 1) tasks) (does gateways (hands.Alone p) base task.work) (λ is. for_alone gateways p base task.work (does_for gateways (hands.Alone p) base task.work is))
+      (none_asking gateways p (base + 1) tasks)
 
   -- who asks nothing never wants for a view
-  unasked : (who : Who) (all : List Entry) (own : List Assigned) (held last : Holding) (entries : List Entry) (ends : List End) → NoQuery own → GiveViews ends → TasksRun (by_script setting) who all held own entries ends last → Contains ends without_view → ⊥
+  unasked : (who : Who) (all : List Entry) (own : List Assigned) (held last : Holding) (entries : List Entry) (ends : List End) → NoneAsking own → GiveViews ends → TasksRun (by_script setting) who all held own entries ends last → Contains ends without_view → ⊥
   unasked who all [] held last entries ends none good (nil, is, same) = not_in ends is
   unasked who all (task ∷ own) held last entries ends none good (inr (run, is)) = not_in ends is
   unasked who all (task ∷ own) held last entries ends none good (inl (made, others, end, later, next, parts, run, is, rest)) =
@@ -252,7 +240,7 @@ module _ (setting : Setting) where
       → (Contains ends without_view → ⊥) × (length ends ≡ length own → final ≡ true → HasView last)
 
   module _ (g : ℕ) where
-    asked_one : (seen final : Bool) (task : Assigned) (others : List Assigned) → (IsQuery task.task.work → seen ≡ true) → AreAsked (seen || is_sync_of g task.task.work) final others → AreAsked seen final (task ∷ others)
+    asked_one : (seen final : Bool) (task : Assigned) (others : List Assigned) → (IsAsking task.task.work → seen ≡ true) → AreAsked (seen || is_sync_of g task.task.work) final others → AreAsked seen final (task ∷ others)
     asked_one seen final task others query rest who all held last entries ends known good (inr (run, is)) =
         (not_in ends is, λ long h. let none : length ends ≡ 0 = ap length is in absurd (omega (arith, none, long)))
     asked_one seen final task others query rest who all held last entries ends known good (inl (made, more, end, later, next, parts, run, is, go)) =
@@ -263,7 +251,7 @@ module _ (setting : Setting) where
         let size : length ends ≡ suc (length later) = ap length is in
         (λ among. not_first end later one tail.0 (subst (λ l. Contains l without_view) is among), λ long. tail.1 (omega (arith, size, long)))
 
-    asked_by_test : (seen final : Bool) (task : Assigned) (others : List Assigned) (b : Bool) → (b ≡ true → IsQuery task.task.work → seen ≡ true) → (b ≡ false → is_sync_of g task.task.work ≡ false)
+    asked_by_test : (seen final : Bool) (task : Assigned) (others : List Assigned) (b : Bool) → (b ≡ true → IsAsking task.task.work → seen ≡ true) → (b ≡ false → is_sync_of g task.task.work ≡ false)
         → AreAsked (seen || is_sync_of g task.task.work) final others → AreAsked seen final (cond b (task ∷ others) others)
     asked_by_test seen final task others true query apart rest = asked_one seen final task others (query refl) rest
     asked_by_test seen final task others false query apart rest = λ who all held last entries ends known good run.
@@ -275,7 +263,7 @@ module _ (setting : Setting) where
         (not_in ends run.1, λ long h. subst HasView (sym run.2) (known (or_none seen false refl h)))
     are_asked gateways count few seen base (task ∷ tasks) all =
         asked_by_test seen (seen || has_sync (works_in (task ∷ tasks)) g) (record { place = base; task = task }) (owned gateways (hands.Gateway g) (base + 1) tasks) (does gateways (hands.Gateway g) base task.work)
-        (λ is query. let below = for_query gateways g base task.work (does_for gateways (hands.Gateway g) base task.work is) query in all.0 query (omega (arith, below, few)))
+        (λ is query. let below = for_asking gateways g base task.work (does_for gateways (hands.Gateway g) base task.work is) query in all.0 query (omega (arith, below, few)))
         (not_own gateways g base task.work)
         (subst (λ f. AreAsked (seen || is_sync_of g task.work) f (owned gateways (hands.Gateway g) (base + 1) tasks)) (or_assoc seen (is_sync_of g task.work) (has_sync (works_in tasks) g))
         (are_asked gateways count few (seen || is_sync_of g task.work) (base + 1) tasks all.1))
@@ -389,7 +377,7 @@ module _ (setting : Setting) (gateways : ℕ) (few : gateways ≤ length setting
 
   worker_none : (worker : Worker) (own : List End) → Own worker own → GiveViews own → Contains own without_view → ⊥
   worker_none worker own ((hands.Alone p, gateway, places), w) good =
-      unasked setting (record { seat = worker.seat; gateway = None }) made (owned gateways (hands.Alone p) 0 tasks) nothing_held w.last (of_seat worker.seat made) own (no_query setting gateways p 0 tasks) good (its_runs (hands.Alone p) worker own gateway places w)
+      unasked setting (record { seat = worker.seat; gateway = None }) made (owned gateways (hands.Alone p) 0 tasks) nothing_held w.last (of_seat worker.seat made) own (none_asking setting gateways p 0 tasks) good (its_runs (hands.Alone p) worker own gateway places w)
   worker_none worker own ((hands.Gateway g, gateway, places), w) good =
       (gateway_asks g (record { seat = worker.seat; gateway = Some g }) made (views g) w.last (of_seat worker.seat made) own (known g) good (its_runs (hands.Gateway g) worker own gateway places w)).0
 
@@ -480,5 +468,5 @@ pub views_are_there : (setting : Setting) (journal : List Entry) (ends : List (L
     → ((e : SyncEnd) → SomeCame ends (synced e) → (v : View) × (e ≡ fetched.View v)) → ¬ SomeCame ends without_view
 views_are_there setting journal ends lawful turns run gives =
     phases_none setting (min-le_left (length setting.script.gateways) greatest) 0 (λ g. false) none_held setting.script.phases journal ends (λ k. let same : k ≡ 0 + k = omega arith in ap (slice_get setting.script.phases) same)
-    (λ g. are_synced (length setting.script.gateways) g false (works_of setting.script.phases) (λ before after low high selector is below. lawful.phases.synced before after low high selector g is below))
+    (λ g. are_synced (length setting.script.gateways) g false (works_of setting.script.phases) (λ before after work at is below. lawful.phases.synced before after work g at is below))
     (λ g h. absurd (cc (h))) gives turns run.phases

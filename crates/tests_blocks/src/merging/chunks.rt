@@ -4,8 +4,9 @@ use crate::says::say;
 use block_content::read_index;
 use block_meta::BlockFiles;
 use chunk_files::read_chunk;
-use index_parts::{ChunkPlace, IndexSeries};
-use label_sets::{LabelSet, Sample};
+use index_parts::ChunkPlace;
+use index_v2::LentSeries;
+use label_sets::Sample;
 use std::str;
 use wire_bytes::Blob;
 use xor_chunks::{decode, decode_stored};
@@ -20,18 +21,20 @@ pub(crate) fn print_block(rt: &HostRuntime, given: &[BlockFiles], block: &BlockF
     }
 }
 
-fn print_list(rt: &HostRuntime, given: &[BlockFiles], segments: &[Blob], list: &[IndexSeries]) {
+fn print_list(rt: &HostRuntime, given: &[BlockFiles], segments: &[Blob], list: &[LentSeries<'_>]) {
     for series in list {
-        print_labels(rt, &series.labels);
-        for place in series.chunks.members() {
+        print_labels(rt, series);
+        for place in series.chunks() {
             print_chunk(rt, given, *place, chunk_bytes(segments, *place));
         }
     }
 }
 
-fn print_labels(rt: &HostRuntime, labels: &LabelSet) {
+fn print_labels(rt: &HostRuntime, series: &LentSeries<'_>) {
     let mut text = Vec::new(rt.alloc());
-    let _ = labels.write(&mut text);
+    if let Ok(copied) = series.to_series(rt.alloc()) {
+        let _ = copied.labels.write(&mut text);
+    }
     let _ = println!(rt;
         "  {}",
         str::from_utf8(text.as_slice()).unwrap_or("no text")

@@ -56,12 +56,12 @@ pub(crate) fn print_over_files<R: Threads + Wait + Sync>(
 pub(crate) fn print_ended(rt: &HostRuntime, ended: &Ended, beside: Option<&[u8]>) {
     let status = ended.status;
     match beside {
-        Some(output) if output == ended.out.bytes() => {
+        Some(output) if output == ended.written() => {
             let _ = println!(rt; "status {status}, the output beside it");
         }
         _ => {
             let _ = println!(rt; "status {status}");
-            put(rt, text_of(ended.out.bytes()));
+            put(rt, text_of(ended.written()));
         }
     }
 }

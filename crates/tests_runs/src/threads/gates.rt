@@ -11,11 +11,12 @@ const ROUNDS: u64 = 100_000_000;
 /// The operation before which workers wait for each other.
 const MEETING: u64 = 2;
 
-/// Counts how often it was asked for the seats 1 and `last`, and tells whether it was given that number each time. One at which
+/// Counts how often it was asked for a seat and for the next one, and tells whether it was given that number each time. One at which
 /// workers meet holds each of these up before its operation number 2 until the other has come to its own.
 #[derive(Drop)]
 pub struct Watch {
     meets: bool,
+    seat: u32,
     last: u32,
     first: AtomicU64,
     second: AtomicU64,
@@ -26,9 +27,11 @@ pub struct Watch {
 }
 
 impl Watch {
-    pub fn new(meets: bool, last: u32) -> Watch {
+    /// It watches a seat and the next one, where there are none behind the last.
+    pub fn new(meets: bool, seat: u32, last: u32) -> Watch {
         Watch {
             meets,
+            seat,
             last,
             first: AtomicU64::new(0),
             second: AtomicU64::new(0),
@@ -59,13 +62,12 @@ impl Gate for Watch {
         if seat > self.last {
             return self.went_wrong.store(true, Ordering::SeqCst);
         }
-        if seat != 1 && seat != self.last {
-            return;
-        }
-        let (asked, came, other_came) = if seat == 1 {
+        let (asked, came, other_came) = if seat == self.seat {
             (&self.first, &self.first_came, &self.second_came)
-        } else {
+        } else if seat == self.seat.saturating_add(1) {
             (&self.second, &self.second_came, &self.first_came)
+        } else {
+            return;
         };
         if asked.fetch_add(1, Ordering::SeqCst) != number {
             self.went_wrong.store(true, Ordering::SeqCst);

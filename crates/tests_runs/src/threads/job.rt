@@ -1,6 +1,7 @@
 //! Jobs for tests of threads: each asks for operations of one kind over and over, and counts what it was answered.
 
-ghost use Rattle.std.specs.Prelude.{◌≡◌};
+ghost use Rattle.std.specs.Prelude.{◌≡◌, IsTrue, false};
+ghost use Rattle.world_core.specs.Machines.{is_full, is_wanting};
 ghost use Rattle.world_core.specs.Operations.{IsLawful};
 
 use crate::threads::met::Met;
@@ -73,27 +74,33 @@ impl Job for Calls {
     fn run<H: Hand>(self, hand: &mut H) -> CallsEnd {
         let count = self.count;
         let mut done = 0u64;
-        let mut met = Met {
-            full: false,
-            wanted: false,
-        };
         for place in 0..count {
             let op = op_at(self.alloc, self.asks, place);
             let acted = hand.act(op);
-            met.note(&acted);
-            let goes_on = is_done(self.asks, &acted);
-            drop(acted);
-            if !goes_on {
-                break;
+            if !is_done(self.asks, &acted) {
+                return CallsEnd {
+                    done,
+                    met: Met::of(&acted),
+                };
             }
+            drop(acted);
             done = done.saturating_add(1);
         }
-        CallsEnd { done, met }
+        CallsEnd {
+            done,
+            met: Met {
+                full: false,
+                wanted: false,
+            },
+        }
     }
 }
 
 /// Whether what was read was not there, or what was put stands.
-fn is_done(asks: Asks, acted: &Acted) -> bool {
+fn is_done(asks: Asks, acted: &Acted) -> bool
+    ensures full { IsTrue result → is_full acted.now ≡ false }
+    ensures wanted { IsTrue result → is_wanting acted.now ≡ false }
+{
     match acted {
         Acted::Done(seen) => match asks {
             Asks::Reads => matches!(&seen.reply, Reply::Absent),

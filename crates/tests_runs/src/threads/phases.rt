@@ -39,17 +39,37 @@ pub fn workers_share_a_journal<R: Threads + Wait + Sync, G: Gate + Sync>(
     }
 }
 
-/// The gate is told how many operations the first worker and the last have done, before each of them. Where these meet, they wait for
-/// each other before their operation number 2, so neither comes past it unless both run.
-pub fn workers_are_watched<R: Threads + Wait + Sync>(
+/// The gate is told how many operations two workers have done, before each of them. Where these meet, they wait for each other before
+/// their operation number 2, so neither comes past it unless both run.
+pub fn two_are_watched<R: Threads + Wait + Sync>(
     rt: &R,
     alloc: Global,
     meets: bool,
+    count: u64,
+) -> bool {
+    are_watched(rt, alloc, &Watch::new(meets, 1, 2), 2, count)
+}
+
+/// Of five workers each meets the next one, in a phase of its own, however few threads do their jobs.
+pub fn neighbours_meet<R: Threads + Wait + Sync>(rt: &R, alloc: Global) -> bool {
+    for seat in 1..5 {
+        let gate = Watch::new(true, seat, 5);
+        if !are_watched(rt, alloc, &gate, 5, 5) {
+            return false;
+        }
+    }
+    true
+}
+
+/// Whether the gate of a phase of so many workers saw both of those that it watches.
+fn are_watched<R: Threads + Wait + Sync>(
+    rt: &R,
+    alloc: Global,
+    gate: &Watch,
     workers: u32,
     count: u64,
 ) -> bool {
-    let gate = Watch::new(meets, workers);
-    workers_share_a_journal(rt, alloc, &gate, workers, count)
+    workers_share_a_journal(rt, alloc, gate, workers, count)
         && gate.has_counted(count)
         && gate.saw_both()
 }

@@ -78,7 +78,7 @@ const MANY_CALLS: u64 = 16;
 
 /// Two uploads wait for each other before their operation number 2, so neither comes past it unless both run.
 pub fn uploads_meet<R: Threads + Wait + Sync>(rt: &R, alloc: Global) -> bool {
-    let gate = Watch::new(true, 2);
+    let gate = Watch::new(true, 1, 2);
     let files = FileList::new(alloc);
     let ended = end_over_memory(rt, alloc, REPLAY, files, TWO_BLOCKS, &CALM, &gate);
     let good = has_told(&ended, TWO_BLOCKS_REPORT) && gate.saw_both();
@@ -94,7 +94,7 @@ pub fn a_fault_stops_one_upload<R: Threads + Wait + Sync>(rt: &R, alloc: Global)
     };
     let files = FileList::new(alloc);
     let ended = end_over_memory(rt, alloc, REPLAY, files, TWO_BLOCKS, &setting, &Open);
-    let text = text_of(ended.out.bytes());
+    let text = text_of(ended.written());
     let good = ended.status == 5
         && lines_with(text, "upload", ": fault ") == 1
         && lines_with(text, "upload", ": ok 3 objects") == 1;
@@ -130,7 +130,7 @@ pub fn fails_in_turn<R: Threads + Wait + Sync>(rt: &R, alloc: Global, stream: St
         let is_whole = has_told(&ended, ONE_BLOCK_REPORT);
         let has_failed = match stream {
             Stream::Source => {
-                ended.status == 3 && ended.out.bytes() == b"script read fault\n".as_slice()
+                ended.status == 3 && ended.written() == b"script read fault\n".as_slice()
             }
             Stream::Sink => ended.status == 4,
         };
@@ -147,7 +147,7 @@ pub fn fails_in_turn<R: Threads + Wait + Sync>(rt: &R, alloc: Global, stream: St
 
 /// Whether a run ended as asked, with this report.
 fn has_told(ended: &Ended, report: &str) -> bool {
-    ended.status == 0 && ended.out.bytes() == report.as_bytes()
+    ended.status == 0 && ended.written() == report.as_bytes()
 }
 
 /// Three gateways see one block and are asked for all of it. Their answers are so large that they are compared in threads, where there

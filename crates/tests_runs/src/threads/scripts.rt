@@ -26,7 +26,7 @@ pub(crate) fn print_script<R: Threads + Wait + Sync>(threads: &R, rt: &HostRunti
         &Open,
     );
     let same = count_same(threads, alloc, lines, times.parse().unwrap_or(0), &ended);
-    print_written(rt, ended.status, ended.out.bytes());
+    print_written(rt, ended.status, ended.written());
     drop(ended);
     let _ = println!(rt; "  so with threads: {same} of {times}");
 }
@@ -51,7 +51,7 @@ fn count_same<R: Threads + Wait + Sync>(
             &CALM,
             &Open,
         );
-        if again.status == ended.status && again.out.bytes() == ended.out.bytes() {
+        if again.status == ended.status && again.written() == ended.written() {
             same = same.saturating_add(1);
         }
         drop(again);

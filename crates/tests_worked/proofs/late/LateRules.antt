@@ -102,7 +102,7 @@ phases = record {
   each = All-from_recursion IsLawful row.script.phases (uploads, (marking, (beside, tt)));
   moments = rise;
   few_tasks = lit≤ tt;
-  synced = λ before after low high selector gateway is less. absurd (omega (arith, less));
+  synced = λ before after work gateway is asks less. absurd (omega (arith, less));
 }
 
 pub lawful : IsLawfulScript row.script

@@ -13,12 +13,11 @@ use Rattle.script_workers.specs.declared.work.Work.TheVariants as works
 use Rattle.script_workers.specs.declared.worker.Worker.{Worker}
 use Rattle.lifecycle_core.specs.Conducts.{CameTo}
 use Rattle.lifecycle_core.specs.Tasks.{End, answered, synced, uploaded}
-use Rattle.call_verdicts.specs.script_running.specs.Outcomes.{IsOutcome, TaskCame, TasksCame, PhasesCame}
+use Rattle.call_verdicts.specs.script_running.specs.Outcomes.{IsOutcome, Outcome, PhasesCame, TaskCame, TasksCame}
 use Rattle.call_verdicts.specs.Verdicts.{IsReport}
 use Rattle.call_verdicts.specs.report_lines.specs.Telling.{report_of}
-use Rattle.call_verdicts.specs.script_running.specs.declared.outcome.Outcome.{Outcome}
-use Rattle.call_verdicts.specs.script_running.specs.declared.outcome.Outcome.TheVariants as outcome
-use Rattle.call_verdicts.specs.script_running.specs.declared.outcome.UploadOutcome.TheVariants as uploads
+use Rattle.call_verdicts.specs.script_running.specs.declared.came.Came.TheVariants as outcome
+use Rattle.call_verdicts.specs.script_running.specs.declared.came.Stop.TheVariants as stops
 use Rattle.call_verdicts.specs.script_running.specs.declared.outcome.SyncOutcome.TheVariants as syncs
 use Rattle.tests_worked.specs.SmallBlock as small
 use Rattle.tests_worked.specs.OneBlock as one
@@ -67,11 +66,11 @@ sync = record { line = 8; work = works.Sync 0 }
 abbrev query : Task
 query = record { line = 9; work = works.Query (pos 0) (pos 5000) 0 }
 
-upload_outcome : (o : Outcome) → TaskCame one.script (uploader ∷ []) first_ends 0 upload o → o ≡ outcome.Upload (uploads.Done 3)
+upload_outcome : (o : Outcome) → TaskCame one.script (uploader ∷ []) first_ends 0 upload o → o ≡ outcome.Upload (stops.Ended (shipped.Done 3))
 unfolding hands_of_task
 upload_outcome o came =
     let own = one_end (hands.Alone 0) (λ hand end. CameTo (uploader ∷ []) first_ends (gateway_of hand) 0 end) came.own came.came in
-    outcome_once upload.work (uploaded (shipped.Done 3) ∷ []) o (outcome.Upload (uploads.Done 3)) (subst (λ (ends : List End). IsOutcome upload.work ends o) (own.1 ∙ ap (λ end. end ∷ []) (sym (upload_came own.0 own.2))) came.is) (upload_out small.a None)
+    outcome_once upload.work (uploaded (shipped.Done 3) ∷ []) o (outcome.Upload (stops.Ended (shipped.Done 3))) (subst (λ (ends : List End). IsOutcome upload.work ends o) (own.1 ∙ ap (λ end. end ∷ []) (sym (upload_came own.0 own.2))) came.is) (upload_out small.a None)
 
 sync_outcome : (o : Outcome) → TaskCame one.script (gateway ∷ []) second_ends 0 sync o → o ≡ outcome.Sync (syncs.Blocks 1)
 unfolding hands_of_task
@@ -85,7 +84,7 @@ query_outcome o came =
     let own = one_end (hands.Gateway 0) (λ hand end. CameTo (gateway ∷ []) second_ends (gateway_of hand) 1 end) came.own came.came in
     outcome_once query.work (answered one.used (called.Answer (small.up ∷ []) (small.a ∷ [])) ∷ []) o small_outcome (subst (λ (ends : List End). IsOutcome query.work ends o) (own.1 ∙ ap (λ end. end ∷ []) (sym (query_came own.0 own.2))) came.is) (small_out (pos 0) (pos 5000) 0 one.used)
 
-first_outcomes : (os : List Outcome) → TasksCame one.script (uploader ∷ []) first_ends 0 first_tasks os → os ≡ outcome.Upload (uploads.Done 3) ∷ []
+first_outcomes : (os : List Outcome) → TasksCame one.script (uploader ∷ []) first_ends 0 first_tasks os → os ≡ outcome.Upload (stops.Ended (shipped.Done 3)) ∷ []
 first_outcomes [] came = absurd came
 first_outcomes (o ∷ os) came = let one = upload_outcome o came.0 in cc (one, came.1)
 

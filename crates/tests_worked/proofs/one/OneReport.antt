@@ -12,13 +12,12 @@ use Rattle.store_calls.specs.declared.series_call.SeriesEnd.TheVariants as calle
 use Rattle.script_workers.specs.Hands.{hands_of_task}
 use Rattle.script_workers.specs.declared.worker.Worker.{Worker}
 use Rattle.lifecycle_core.specs.Tasks.{answered, synced, uploaded}
-use Rattle.call_verdicts.specs.script_running.specs.Outcomes.{TasksCame, PhasesCame}
+use Rattle.call_verdicts.specs.script_running.specs.Outcomes.{Outcome, PhasesCame, TasksCame}
 use Rattle.call_verdicts.specs.report_lines.specs.Reports.{upload_words, sync_words, source_line, series_line, counts_text, answer_text, parted_text, named_lines, named_line, named_count, query_text, activity_text}
 use Rattle.call_verdicts.specs.Verdicts.{IsReport}
 use Rattle.call_verdicts.specs.report_lines.specs.Telling.{report_of}
-use Rattle.call_verdicts.specs.script_running.specs.declared.outcome.Outcome.{Outcome}
-use Rattle.call_verdicts.specs.script_running.specs.declared.outcome.Outcome.TheVariants as outcome
-use Rattle.call_verdicts.specs.script_running.specs.declared.outcome.UploadOutcome.TheVariants as uploads
+use Rattle.call_verdicts.specs.script_running.specs.declared.came.Came.TheVariants as outcome
+use Rattle.call_verdicts.specs.script_running.specs.declared.came.Stop.TheVariants as stops
 use Rattle.call_verdicts.specs.script_running.specs.declared.outcome.SyncOutcome.TheVariants as syncs
 use Rattle.tests_worked.specs.SmallBlock as small
 use Rattle.tests_worked.specs.OneBlock as one
@@ -26,9 +25,9 @@ use Rattle.tests_worked.proofs.small.SmallOutcomes.{small_out, small_outcome, sy
 use Rattle.tests_worked.proofs.one.OneBlock.{uploader, gateway, first_workers, second_workers, first_tasks, second_tasks, first_ends, second_ends}
 
 abbrev pub outcomes : List Outcome
-outcomes = outcome.Upload (uploads.Done 3) ∷ outcome.Sync (syncs.Blocks 1) ∷ small_outcome ∷ []
+outcomes = outcome.Upload (stops.Ended (shipped.Done 3)) ∷ outcome.Sync (syncs.Blocks 1) ∷ small_outcome ∷ []
 
-first_came : TasksCame one.script (uploader ∷ []) first_ends 0 first_tasks (outcome.Upload (uploads.Done 3) ∷ [])
+first_came : TasksCame one.script (uploader ∷ []) first_ends 0 first_tasks (outcome.Upload (stops.Ended (shipped.Done 3)) ∷ [])
 unfolding hands_of_task
 first_came = (
   record {
@@ -59,10 +58,10 @@ second_came = (
 
 came : PhasesCame one.script 0 one.script.phases one.ends outcomes
 came = (
-  outcome.Upload (uploads.Done 3) ∷ [],
+  outcome.Upload (stops.Ended (shipped.Done 3)) ∷ [],
   outcome.Sync (syncs.Blocks 1) ∷ small_outcome ∷ [],
   refl,
-  subst (λ (ws : List Worker). TasksCame one.script ws first_ends 0 first_tasks (outcome.Upload (uploads.Done 3) ∷ [])) (sym first_workers) first_came,
+  subst (λ (ws : List Worker). TasksCame one.script ws first_ends 0 first_tasks (outcome.Upload (stops.Ended (shipped.Done 3)) ∷ [])) (sym first_workers) first_came,
   (
     outcome.Sync (syncs.Blocks 1) ∷ small_outcome ∷ [],
     [],

@@ -10,14 +10,12 @@ use Rattle.script_workers.specs.declared.work.Work.TheVariants as works
 use Rattle.lifecycle_core.specs.Holdings.{Use}
 use Rattle.lifecycle_core.specs.Tasks.{answered, synced, uploaded}
 use Rattle.lifecycle_core.proofs.answers.Joining.{none_merged}
-use Rattle.call_verdicts.specs.script_running.specs.Outcomes.{IsOutcome}
-use Rattle.call_verdicts.specs.script_running.specs.declared.outcome.Outcome.{Outcome}
-use Rattle.call_verdicts.specs.script_running.specs.declared.outcome.Outcome.TheVariants as outcome
+use Rattle.call_verdicts.specs.script_running.specs.Outcomes.{IsOutcome, Outcome}
+use Rattle.call_verdicts.specs.script_running.specs.declared.came.Came.TheVariants as came_to
 use Rattle.call_verdicts.specs.script_running.specs.declared.outcome.QueryOutcome.TheVariants as queries
 use Rattle.call_verdicts.specs.script_running.specs.declared.outcome.SyncOutcome.TheVariants as syncs
-use Rattle.call_verdicts.specs.script_running.specs.declared.outcome.UploadOutcome.TheVariants as uploads
-use Rattle.call_verdicts.specs.script_running.specs.declared.part.Part.TheVariants as part
-use Rattle.call_verdicts.specs.script_running.specs.declared.part.QueryPart.TheVariants as given
+use Rattle.call_verdicts.specs.script_running.specs.declared.came.Stop.TheVariants as stops
+use Rattle.call_verdicts.specs.script_running.specs.declared.outcome.QueryPart.TheVariants as given
 use Rattle.tests_worked.specs.SmallBlock as small
 use Rattle.tests_worked.proofs.small.SmallCalls.{merge_given}
 
@@ -29,28 +27,28 @@ abbrev pub no_answer : Answer
 no_answer = record { series = []; sources = [] }
 
 abbrev pub small_outcome : Outcome
-small_outcome = outcome.Query (queries.Answer small_answer (record { gateway = 0; sources = small.a ∷ [] } ∷ []))
+small_outcome = came_to.Query (queries.Answer small_answer (record { gateway = 0; sources = small.a ∷ [] } ∷ []))
 
 abbrev pub no_outcome : Outcome
-no_outcome = outcome.Query (queries.Answer no_answer (record { gateway = 0; sources = [] } ∷ []))
+no_outcome = came_to.Query (queries.Answer no_answer (record { gateway = 0; sources = [] } ∷ []))
 
-pub upload_out : (ulid : ℕ) (stop : Option ℕ) → IsOutcome (works.Upload ulid stop) (uploaded (shipped.Done 3) ∷ []) (outcome.Upload (uploads.Done 3))
-upload_out ulid stop = (part.Upload (uploads.Done 3) ∷ [], (refl, tt), (uploads.Done 3, refl, refl))
+pub upload_out : (ulid : ℕ) (stop : Option ℕ) → IsOutcome (works.Upload ulid stop) (uploaded (shipped.Done 3) ∷ []) (came_to.Upload (stops.Ended (shipped.Done 3)))
+upload_out ulid stop = (came_to.Upload (stops.Ended (shipped.Done 3)) ∷ [], (refl, tt), (came_to.Upload (stops.Ended (shipped.Done 3)), refl, refl))
 
-pub sync_out : (gateway : ℕ) (view : View) (count : ℕ) → length view.kept ≡ count → IsOutcome (works.Sync gateway) (synced (fetched.View view) ∷ []) (outcome.Sync (syncs.Blocks count))
-sync_out gateway view count is = (part.Sync (syncs.Blocks count) ∷ [], (ap (λ (n : ℕ). part.Sync (syncs.Blocks n)) (sym is), tt), (syncs.Blocks count, refl, refl))
+pub sync_out : (gateway : ℕ) (view : View) (count : ℕ) → length view.kept ≡ count → IsOutcome (works.Sync gateway) (synced (fetched.View view) ∷ []) (came_to.Sync (syncs.Blocks count))
+sync_out gateway view count is = (came_to.Sync (syncs.Blocks count) ∷ [], (ap (λ (n : ℕ). came_to.Sync (syncs.Blocks n)) (sym is), tt), (came_to.Sync (syncs.Blocks count), refl, refl))
 
 pub small_out : (low high : ℤ) (selector : ℕ) (used : Use) → IsOutcome (works.Query low high selector) (answered used (called.Answer (small.up ∷ []) (small.a ∷ [])) ∷ []) small_outcome
 small_out low high selector used = (
-  part.Query (given.Answer small_answer) ∷ [],
+  came_to.Query (given.Answer small_answer used.view.first) ∷ [],
   (refl, tt),
-  (given.Answer small_answer ∷ [], queries.Answer small_answer (record { gateway = 0; sources = small.a ∷ [] } ∷ []), refl, (refl, record { merged = merge_given; sources = refl }, refl), refl),
+  (given.Answer small_answer used.view.first ∷ [], queries.Answer small_answer (record { gateway = 0; sources = small.a ∷ [] } ∷ []), refl, (refl, record { merged = merge_given; sources = refl }, refl), refl),
 )
 
 pub no_out : (low high : ℤ) (selector : ℕ) (used : Use) → IsOutcome (works.Query low high selector) (answered used (called.Answer [] []) ∷ []) no_outcome
 unfolding triples_of
 no_out low high selector used = (
-  part.Query (given.Answer no_answer) ∷ [],
+  came_to.Query (given.Answer no_answer used.view.first) ∷ [],
   (refl, tt),
-  (given.Answer no_answer ∷ [], queries.Answer no_answer (record { gateway = 0; sources = [] } ∷ []), refl, (refl, record { merged = none_merged; sources = refl }, refl), refl),
+  (given.Answer no_answer used.view.first ∷ [], queries.Answer no_answer (record { gateway = 0; sources = [] } ∷ []), refl, (refl, record { merged = none_merged; sources = refl }, refl), refl),
 )

@@ -12,13 +12,12 @@ use Rattle.script_workers.specs.Hands.{hands_of_task}
 use Rattle.script_workers.specs.declared.worker.Worker.{Worker}
 use Rattle.lifecycle_core.specs.Holdings.{Use}
 use Rattle.lifecycle_core.specs.Tasks.{End, synced, uploaded}
-use Rattle.call_verdicts.specs.script_running.specs.Outcomes.{TasksCame}
+use Rattle.call_verdicts.specs.script_running.specs.Outcomes.{Outcome, TasksCame}
 use Rattle.call_verdicts.specs.report_lines.specs.Reports.{upload_words, sync_words, source_line, series_line, counts_text, answer_text, parted_text, named_lines, named_line, named_count, query_text, activity_text}
 use Rattle.call_verdicts.specs.Verdicts.{IsReport}
 use Rattle.call_verdicts.specs.report_lines.specs.Telling.{report_of}
-use Rattle.call_verdicts.specs.script_running.specs.declared.outcome.Outcome.{Outcome}
-use Rattle.call_verdicts.specs.script_running.specs.declared.outcome.Outcome.TheVariants as outcome
-use Rattle.call_verdicts.specs.script_running.specs.declared.outcome.UploadOutcome.TheVariants as uploads
+use Rattle.call_verdicts.specs.script_running.specs.declared.came.Came.TheVariants as outcome
+use Rattle.call_verdicts.specs.script_running.specs.declared.came.Stop.TheVariants as stops
 use Rattle.call_verdicts.specs.script_running.specs.declared.outcome.SyncOutcome.TheVariants as syncs
 use Rattle.tests_worked.specs.SmallBlock as small
 use Rattle.tests_worked.specs.YoungBlock as young
@@ -26,7 +25,7 @@ use Rattle.tests_worked.proofs.small.SmallOutcomes.{no_out, no_outcome, small_ou
 use Rattle.tests_worked.proofs.young.YoungBlock.{first_gateway, uploader, second_gateway, first_workers, second_workers, first_tasks, second_tasks, first_ends, second_ends}
 
 abbrev first_outcomes : List Outcome
-first_outcomes = outcome.Sync (syncs.Blocks 0) ∷ outcome.Upload (uploads.Done 3) ∷ no_outcome ∷ []
+first_outcomes = outcome.Sync (syncs.Blocks 0) ∷ outcome.Upload (stops.Ended (shipped.Done 3)) ∷ no_outcome ∷ []
 
 abbrev second_outcomes : List Outcome
 second_outcomes = outcome.Sync (syncs.Blocks 1) ∷ small_outcome ∷ []

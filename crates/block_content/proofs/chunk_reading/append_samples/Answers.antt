@@ -1,9 +1,9 @@
 use Rattle.std.proofs.Common.{◌∙◌, ap, drop, refl, List}
 use Rattle.block_content.specs.declared.chunk_cause.ChunkCause.TheVariants.{Data}
 use Rattle.label_sets.specs.declared.sample.Sample.{Sample}
-use Rattle.xor_chunks.specs.Data.{data_at, with_samples}
+use Rattle.xor_chunks.specs.Data.{with_samples}
 use Rattle.block_content.specs.ContentReading.{samples_at}
-use Rattle.block_content.proofs.Appending.{stops, data_stopped, test_stopped, test_passed, parts_of_whole, between_of}
+use Rattle.block_content.proofs.Appending.{stops, data_stopped, test_stopped, test_passed}
 use Rattle.std.proofs.Common.{inr}
 use Rattle.block_content.proofs.chunk_reading.append_samples.Goals as goal
 
@@ -20,10 +20,3 @@ pub returns-clause-exact : goal.returns-clause-exact
 returns-clause-exact c =
     (test_passed c.args.place.now c.args.content.now c.args.samples.items c.in_ok-all.all.items c.members_behind.result.now c.len-before.result c.in_ok-all.ensures.exact (c.len-before.ensures ∙ c.args.samples.ok.0)
     (c.members_behind.ensures ∙ ap (λ (xs : List Sample). drop c.len-before.result xs) c.as_slice.ensures.value) c.in_ok-test_part.ensures).0
-
-pub returns-clause-between : goal.returns-clause-between
-returns-clause-between c =
-    let whole = parts_of_whole c.args.samples.items c.in_ok-all.all.items (data_at 8 c.args.content.now) c.in_ok-all.ensures.exact in
-    between_of c.args.place.now c.args.content.now c.args.samples.items c.in_ok-all.all.items whole.0 c.in_ok-all.ensures.found whole.2
-    (test_passed c.args.place.now c.args.content.now c.args.samples.items c.in_ok-all.all.items c.members_behind.result.now c.len-before.result c.in_ok-all.ensures.exact (c.len-before.ensures ∙ c.args.samples.ok.0)
-    (c.members_behind.ensures ∙ ap (λ (xs : List Sample). drop c.len-before.result xs) c.as_slice.ensures.value) c.in_ok-test_part.ensures).1

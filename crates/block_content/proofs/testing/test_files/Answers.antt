@@ -12,9 +12,9 @@ returns-in_err-counts-clause-exact c = tested_stops c.args.meta.now c.args.index
 
 pub returns-in_err-test_found-clause-exact : goal.returns-in_err-test_found-clause-exact
 returns-in_err-test_found-clause-exact c = tested_stops c.args.meta.now c.args.index.now c.args.segments.now c.from_residual-in_err-test_found.result c.in_err-test_found.field-0.0 c.from_residual-in_err-test_found.ensures.1
-    (found_stops c.args.meta.now c.args.index.now c.args.segments.now c.in_ok-indexed.indexed c.members.result.now c.in_ok-indexed.ensures.exact c.members.ensures c.in_ok-counts.counts.samples c.in_ok-counts.counts.outside c.lent_repeated.result
-    c.in_ok-counts.ensures.read c.members-2.result.now c.members-2.ensures c.lent_repeated.ensures c.in_err-test_found.field-0.0 (sym c.in_err-test_found.ensures))
+    (found_stops c.args.meta.now c.args.index.now c.args.segments.now c.in_ok-indexed.indexed c.members.result.now c.in_ok-indexed.ensures.exact c.members.ensures c.in_ok-counts.counts.samples c.in_ok-counts.counts.outside c.first_repeated.result
+    c.in_ok-counts.ensures.read c.members-2.result.now c.members-2.ensures c.first_repeated.ensures c.in_err-test_found.field-0.0 (sym c.in_err-test_found.ensures))
 
 pub returns-clause-exact : goal.returns-clause-exact
-returns-clause-exact c = all_tested c.args.meta.now c.args.index.now c.args.segments.now c.in_ok-indexed.indexed c.members.result.now c.in_ok-indexed.ensures.exact c.members.ensures c.in_ok-counts.counts.samples c.in_ok-counts.counts.outside c.lent_repeated.result
-    c.in_ok-counts.ensures.read c.members-2.result.now c.members-2.ensures c.lent_repeated.ensures (sym c.in_ok-test_found.ensures)
+returns-clause-exact c = all_tested c.args.meta.now c.args.index.now c.args.segments.now c.in_ok-indexed.indexed c.members.result.now c.in_ok-indexed.ensures.exact c.members.ensures c.in_ok-counts.counts.samples c.in_ok-counts.counts.outside c.first_repeated.result
+    c.in_ok-counts.ensures.read c.members-2.result.now c.members-2.ensures c.first_repeated.ensures (sym c.in_ok-test_found.ensures)

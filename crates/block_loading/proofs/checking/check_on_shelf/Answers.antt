@@ -5,7 +5,7 @@ use Rattle.block_loading.specs.LoadedChecks.{EndsCheck, loaded_files, loaded_uli
 use Rattle.block_loading.specs.declared.loaded_block.LoadedBlock.{LoadedBlock}
 use Rattle.block_loading.proofs.Calls.{answered, error_on, not_stopped, passed_on}
 use Rattle.block_loading.proofs.AskedBlock.{asked_on, asked_whole}
-use Rattle.block_loading.proofs.Ended.{checked_here, ended_as, ended_calm, ended_few, ended_moved, ended_passed, ended_passes, ended_refused, ended_refuses, ended_said, ended_segments}
+use Rattle.block_loading.proofs.Ended.{checked_here, ended_as, ended_calm, ended_moved, ended_passed, ended_passes, ended_refused, ended_refuses, ended_said, ended_segments}
 use Rattle.block_loading.proofs.checking.check_on_shelf.Goals as goal
 
 -- ---- it was not loaded
@@ -21,15 +21,12 @@ returns-in_err-block-clause-refuses g c = λ told h refusal is.
     ]
 
 pub returns-in_err-block-clause-asks : goal.returns-in_err-block-clause-asks
-returns-in_err-block-clause-asks g c = asked_on g.F.Shelf.files g.F.Shelf.asked g.F.Shelf.faults _ _ _ _ c.args.ulid (StopsAt c.args.ulid) (StopsOnShelf c.args.ulid) c.from_residual.result c.in_err-block.field-0.0 c.from_residual.ensures.1 (λ count refusal stops. inl stops) c.in_err-block.ensures.asks
+returns-in_err-block-clause-asks g c = asked_on g.F.Shelf.told _ _ _ _ c.args.ulid (StopsAt c.args.ulid) (StopsOnShelf c.args.ulid) c.from_residual.result c.in_err-block.field-0.0 c.from_residual.ensures.1 (λ count refusal stops. inl stops) c.in_err-block.ensures.asks
 
 -- ---- it was loaded, and its check ended so
 
 pub returns-clause-passed : goal.returns-clause-passed
 returns-clause-passed g c = ended_passed c.args.ulid (loaded_files c.in_ok-block.block) c.check.result (ended_moved _ _ _ _ c.in_ok-block.ensures.ulid c.check.ensures)
-
-pub returns-clause-few : goal.returns-clause-few
-returns-clause-few g c = ended_few c.args.ulid (loaded_files c.in_ok-block.block) c.check.result (ended_moved _ _ _ _ c.in_ok-block.ensures.ulid c.check.ensures)
 
 pub returns-clause-within : goal.returns-clause-within
 returns-clause-within g c = ended_as c.args.ulid (loaded_files c.in_ok-block.block) AreWithinLimit c.in_ok-block.ensures.within c.check.result (ended_moved _ _ _ _ c.in_ok-block.ensures.ulid c.check.ensures)
@@ -64,10 +61,10 @@ pub returns-clause-asks : goal.returns-clause-asks
 returns-clause-asks g c =
     let files = loaded_files c.in_ok-block.block in
     let ends = ended_moved _ _ _ _ c.in_ok-block.ensures.ulid c.check.ensures in
-    asked_whole g.F.Shelf.files g.F.Shelf.asked g.F.Shelf.faults (λ (block : LoadedBlock). (loaded_files block).segments) _ _ _ c.args.ulid (StopsAt c.args.ulid) (StopsOnShelf c.args.ulid) c.in_ok-block.block c.check.result (ended_segments c.args.ulid files c.check.result ends)
+    asked_whole g.F.Shelf.told (λ (block : LoadedBlock). (loaded_files block).segments) _ _ _ c.args.ulid (StopsAt c.args.ulid) (StopsOnShelf c.args.ulid) c.in_ok-block.block c.check.result (ended_segments c.args.ulid files c.check.result ends)
     (λ count whole. ended_said c.args.ulid files (StopsOnShelf c.args.ulid count) c.check.result ends
     (λ refusal why. inr (record { files = files; within = c.in_ok-block.ensures.within; named = c.in_ok-block.ensures.named; count_is = whole; refused = why })))
     (ended_calm c.args.ulid files c.check.result ends) c.in_ok-block.ensures.asks
 
 pub returns-clause-kept : goal.returns-clause-kept
-returns-clause-kept g c = checked_here g.F.Shelf.files g.F.Shelf.faults _ _ (loaded_ulid c.in_ok-block.block) (loaded_files c.in_ok-block.block) c.check.result c.check.ensures c.in_ok-block.ensures.kept
+returns-clause-kept g c = checked_here g.F.Shelf.told _ _ (loaded_ulid c.in_ok-block.block) (loaded_files c.in_ok-block.block) c.check.result c.check.ensures c.in_ok-block.ensures.kept

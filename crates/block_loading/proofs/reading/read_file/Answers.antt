@@ -10,13 +10,13 @@ pub returns-clause-read : goal.returns-clause-read
 returns-clause-read g c = λ told h. read_is c.file_of.result _ told c.args.key.now c.as_str.result.now _ c.read-answer.ensures.shown h (c.as_str.ensures ∙ c.in_ok-name.ensures.value) c.file_of.ensures.read
 
 pub returns-in_err-name-clause-asks : goal.returns-in_err-name-clause-asks
-returns-in_err-name-clause-asks g c = inr (asks_none g.F.Shelf.asked c.args.shelf.now, error_is c.from_residual.result NoMemory c.from_residual.ensures.1)
+returns-in_err-name-clause-asks g c = inr (asks_none g.F.Shelf.told c.args.shelf.now, error_is c.from_residual.result NoMemory c.from_residual.ensures.1)
 
 pub returns-clause-asks : goal.returns-clause-asks
 returns-clause-asks g c =
     elim c.read-answer.ensures.asks [
-      | inl asks ↦ inl (asks_as g.F.Shelf.asked _ _ _ _ asks (ap (λ (n : List ℕ). n ∷ []) (c.as_str.ensures ∙ c.in_ok-name.ensures.value)))
-      | inr unnoted ↦ inr (asks_same g.F.Shelf.asked _ _ unnoted.0, c.file_of.ensures.memory unnoted.1)
+      | inl asks ↦ inl (asks_as g.F.Shelf.told _ _ _ _ asks (ap (λ (n : List ℕ). n ∷ []) (c.as_str.ensures ∙ c.in_ok-name.ensures.value)))
+      | inr unnoted ↦ inr (asks_same g.F.Shelf.told _ _ unnoted.0, c.file_of.ensures.memory unnoted.1)
     ]
 
 pub returns-in_err-name-clause-stopped : goal.returns-in_err-name-clause-stopped

@@ -19,13 +19,13 @@ pub returns-clause-read : goal.returns-clause-read
 returns-clause-read g c = λ told h. meta_stopped told c.args.ulid c.in_ok-text.text c.bytes.result.now (c.in_ok-text.ensures.read told h) c.bytes.ensures c.in-Err.refusal c.refused_meta.result c.in-Err.ensures.gives c.refused_meta.ensures
 
 pub returns-in_err-text-clause-asks : goal.returns-in_err-text-clause-asks
-returns-in_err-text-clause-asks g c = file_stopped g.F.Shelf.asked _ _ _ c.in_err-text.field-0.0 c.from_residual.result c.from_residual.ensures.1 c.in_err-text.ensures.asks
+returns-in_err-text-clause-asks g c = file_stopped g.F.Shelf.told _ _ _ c.in_err-text.field-0.0 c.from_residual.result c.from_residual.ensures.1 c.in_err-text.ensures.asks
 
 pub returns-in-Ok-clause-asks : goal.returns-in-Ok-clause-asks
-returns-in-Ok-clause-asks g c = inl (file_asked g.F.Shelf.asked _ _ _ c.in_ok-text.text c.in_ok-text.ensures.asks)
+returns-in-Ok-clause-asks g c = inl (file_asked g.F.Shelf.told _ _ _ c.in_ok-text.text c.in_ok-text.ensures.asks)
 
 pub returns-clause-asks : goal.returns-clause-asks
-returns-clause-asks g c = inl (file_asked g.F.Shelf.asked _ _ _ c.in_ok-text.text c.in_ok-text.ensures.asks)
+returns-clause-asks g c = inl (file_asked g.F.Shelf.told _ _ _ c.in_ok-text.text c.in_ok-text.ensures.asks)
 
 pub returns-in-Ok-clause-within : goal.returns-in-Ok-clause-within
 returns-in-Ok-clause-within g c = of_text c.in_ok-text.text c.bytes.result.now (fields_of c.in-Ok.meta) c.bytes.ensures c.in_ok-text.ensures.within c.in-Ok.ensures.gives c.in-Ok.ensures.few

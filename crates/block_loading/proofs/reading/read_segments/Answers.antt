@@ -22,10 +22,10 @@ loop-number-preserved g c = record {
   many = let before = c.loop-number.invariant.many in omega (arith, before, ap length c.in_ok-push.ensures.ok, length-append c.loop-number.segments (c.in_ok-segment.segment ∷ []));
   read = λ told h. read_step told c.args.ulid c.args.last c.loop-number.number c.loop-number.segments c.in_ok-segment.segment (c.loop-number.invariant.read told h) c.loop-number-test.true (c.in_ok-segment.ensures.read told (c.loop-number.invariant.kept.same ∙ h))
       ∙ ap (λ xs. with_front xs (segments_at told c.args.ulid ((c.loop-number.number + 1) + 1) (c.args.last - (c.loop-number.number + 1)))) (sym c.in_ok-push.ensures.ok);
-  asked = asked_one g.F.Shelf.asked c.args.ulid c.args.shelf.now c.loop-number.shelf c.read_file.new.shelf c.loop-number.number c.loop-number.invariant.asked (file_asked g.F.Shelf.asked _ _ _ c.in_ok-segment.segment c.in_ok-segment.ensures.asks);
+  asked = asked_one g.F.Shelf.told c.args.ulid c.args.shelf.now c.loop-number.shelf c.read_file.new.shelf c.loop-number.number c.loop-number.invariant.asked (file_asked g.F.Shelf.told _ _ _ c.in_ok-segment.segment c.in_ok-segment.ensures.asks);
   stood = λ told h. subst (HasSegments told c.args.ulid) (sym c.in_ok-push.ensures.ok) (stand_more told c.args.ulid c.loop-number.segments c.loop-number.number c.in_ok-segment.segment (c.loop-number.invariant.stood told h) c.loop-number.invariant.many (c.in_ok-segment.ensures.read told (c.loop-number.invariant.kept.same ∙ h)));
   sized = one_more c.loop-number.segments _ c.in_ok-segment.segment c.in_ok-push.ensures.ok c.loop-number.invariant.sized c.in_ok-segment.ensures.within;
-  kept = kept_then g.F.Shelf.files g.F.Shelf.faults c.args.shelf.now c.loop-number.shelf c.read_file.new.shelf false c.loop-number.invariant.kept c.in_ok-segment.ensures.kept;
+  kept = kept_then g.F.Shelf.told c.args.shelf.now c.loop-number.shelf c.read_file.new.shelf false c.loop-number.invariant.kept c.in_ok-segment.ensures.kept;
 }
 
 pub returns-clause-read : goal.returns-clause-read
@@ -35,18 +35,18 @@ pub loop-number-init : goal.loop-number-init
 loop-number-init g c = record {
   many = ap length c.new-segments.ensures;
   read = λ told h. read_start told c.args.ulid c.args.last ∙ ap (λ xs. with_front xs (segments_at told c.args.ulid 1 (c.args.last - 0))) (sym c.new-segments.ensures);
-  asked = asks_first g.F.Shelf.asked c.args.shelf.now c.args.ulid 2;
+  asked = asks_first g.F.Shelf.told c.args.shelf.now c.args.ulid 2;
   stood = λ told h. subst (HasSegments told c.args.ulid) (sym c.new-segments.ensures) (stand_none told c.args.ulid);
   sized = none_large _ c.new-segments.ensures;
-  kept = kept_here g.F.Shelf.files g.F.Shelf.faults c.args.shelf.now;
+  kept = kept_here g.F.Shelf.told c.args.shelf.now;
 }
 
 pub returns-in_err-segment-clause-asks : goal.returns-in_err-segment-clause-asks
-returns-in_err-segment-clause-asks g c = segment_stopped g.F.Shelf.files g.F.Shelf.asked g.F.Shelf.faults c.args.ulid c.args.last c.from_residual.result c.args.shelf.now c.loop-number.shelf c.loop-number.number c.loop-number.segments c.loop-number.invariant.asked c.loop-number.invariant.stood c.loop-number.invariant.many (c.loop-number.invariant.kept.calm refl) c.loop-number-test.true c.read_file.new.shelf c.in_err-segment.field-0.0 c.from_residual.ensures.1 c.in_err-segment.ensures.asks
+returns-in_err-segment-clause-asks g c = segment_stopped g.F.Shelf.told c.args.ulid c.args.last c.from_residual.result c.args.shelf.now c.loop-number.shelf c.loop-number.number c.loop-number.segments c.loop-number.invariant.asked c.loop-number.invariant.stood c.loop-number.invariant.many (c.loop-number.invariant.kept.calm refl) c.loop-number-test.true c.read_file.new.shelf c.in_err-segment.field-0.0 c.from_residual.ensures.1 c.in_err-segment.ensures.asks
     (λ told h. c.in_err-segment.ensures.read told (c.loop-number.invariant.kept.same ∙ h)) c.in_err-segment.ensures.stopped
 
 pub returns-in_err-push-clause-asks : goal.returns-in_err-push-clause-asks
-returns-in_err-push-clause-asks g c = segment_unkept g.F.Shelf.files g.F.Shelf.asked g.F.Shelf.faults c.args.ulid c.args.last _ c.args.shelf.now c.loop-number.shelf c.loop-number.number c.loop-number.segments c.loop-number.invariant.asked c.loop-number.invariant.stood c.loop-number.invariant.many (c.loop-number.invariant.kept.calm refl) c.loop-number-test.true c.read_file.new.shelf c.from_residual-in_err-push.ensures.1 (file_asked g.F.Shelf.asked _ _ _ c.in_ok-segment.segment c.in_ok-segment.ensures.asks)
+returns-in_err-push-clause-asks g c = segment_unkept g.F.Shelf.told c.args.ulid c.args.last _ c.args.shelf.now c.loop-number.shelf c.loop-number.number c.loop-number.segments c.loop-number.invariant.asked c.loop-number.invariant.stood c.loop-number.invariant.many (c.loop-number.invariant.kept.calm refl) c.loop-number-test.true c.read_file.new.shelf c.from_residual-in_err-push.ensures.1 (file_asked g.F.Shelf.told _ _ _ c.in_ok-segment.segment c.in_ok-segment.ensures.asks)
 
 pub returns-clause-asks : goal.returns-clause-asks
-returns-clause-asks g c = segments_ended g.F.Shelf.files g.F.Shelf.asked g.F.Shelf.faults c.args.ulid c.args.last _ c.args.shelf.now c.loop-number.shelf c.loop-number.number c.loop-number.segments c.loop-number.invariant.asked c.loop-number.invariant.stood c.loop-number.invariant.many (c.loop-number.invariant.kept.calm refl) (let end = c.loop-number.auto.number-end in omega (arith, end)) tt refl
+returns-clause-asks g c = segments_ended g.F.Shelf.told c.args.ulid c.args.last _ c.args.shelf.now c.loop-number.shelf c.loop-number.number c.loop-number.segments c.loop-number.invariant.asked c.loop-number.invariant.stood c.loop-number.invariant.many (c.loop-number.invariant.kept.calm refl) (let end = c.loop-number.auto.number-end in omega (arith, end)) tt refl

@@ -12,9 +12,9 @@ use Rattle.block_loading.proofs.reading.read_segments.Given as goal
 abbrev pub invariant-loop-number : goal.invariant-loop-number
 invariant-loop-number g l = record {
   many : length l.segments ≡ l.number;
-  read : (told : Contents) → g.F.Shelf.files l.fn.shelf ≡ Some told → segments_at told l.ulid 1 l.last ≡ with_front l.segments (segments_at told l.ulid (l.number + 1) (l.last - l.number));
-  asked : Asks g.F.Shelf.asked l.fn.shelf l.shelf (names_after l.ulid 2 l.number);
-  stood : (told : Contents) → g.F.Shelf.files l.fn.shelf ≡ Some told → HasSegments told l.ulid l.segments;
+  read : (told : Contents) → (g.F.Shelf.told l.fn.shelf).files ≡ Some told → segments_at told l.ulid 1 l.last ≡ with_front l.segments (segments_at told l.ulid (l.number + 1) (l.last - l.number));
+  asked : Asks (g.F.Shelf.told l.fn.shelf).asked (g.F.Shelf.told l.shelf).asked (names_after l.ulid 2 l.number);
+  stood : (told : Contents) → (g.F.Shelf.told l.fn.shelf).files ≡ Some told → HasSegments told l.ulid l.segments;
   sized : All (λ (segment : List ℕ). length segment ≤ file_limit) l.segments;
-  kept : KeepsShelf g.F.Shelf.files g.F.Shelf.faults l.fn.shelf l.shelf false;
+  kept : KeepsShelf g.F.Shelf.told l.fn.shelf l.shelf false;
 }

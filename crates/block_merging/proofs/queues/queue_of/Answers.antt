@@ -1,4 +1,5 @@
-use Rattle.std.proofs.Common.{refl, sym, subst}
+use Rattle.std.proofs.Common.{ℕ, List, refl, sym, subst}
+use Rattle.index_parts.specs.IndexFile.{IsIndex}
 use Rattle.std.specs.List.{AllByRecursion}
 use Rattle.block_merging.specs.Queues.{IsRead}
 use Rattle.block_merging.proofs.InputWalks.{test_stopped, test_short, test_passed}
@@ -17,6 +18,9 @@ returns-in_err-places-clause-tested c = test_short c.args.block.now c.from_resid
 
 pub returns-in_err-chunks-clause-tested : goal.returns-in_err-chunks-clause-tested
 returns-in_err-chunks-clause-tested c = test_short c.args.block.now c.from_residual-in_err-chunks.result c.from_residual-in_err-chunks.ensures.1
+
+pub reader_and_numbers-requires : goal.reader_and_numbers-requires
+reader_and_numbers-requires c = (c.in_ok-indexed.indexed, subst (λ (b : List ℕ). IsIndex b c.in_ok-indexed.indexed) (sym c.bytes.ensures) c.in_ok-indexed.ensures.found.0)
 
 pub ordered_places-requires-clause-small : goal.ordered_places-requires-clause-small
 ordered_places-requires-clause-small c =

@@ -1,7 +1,13 @@
-use Rattle.std.proofs.Common.{subst, sym}
+use Rattle.std.proofs.Common.{map, subst, sym}
 use Rattle.block_writing.specs.Built.{AreOfBlock, BeginAfter}
-use Rattle.block_merging.proofs.Merged.{samples_some, kept_of_block, kept_after, merged_told}
+use Rattle.block_merging.specs.Steps.{IsReadable}
+use Rattle.block_merging.specs.Placed.{placed_chunk}
+use Rattle.block_merging.proofs.Putting.{all_readable}
+use Rattle.block_merging.proofs.Merged.{in_run, samples_some, kept_of_block, kept_after, merged_told}
 use Rattle.block_merging.proofs.series_merge.put_merged.Goals as goal
+
+pub run_samples-requires : goal.run_samples-requires
+run_samples-requires c = in_run IsReadable c.args.run.now (all_readable c.args.writer.now.plan (map placed_chunk c.args.run.now) c.requires.stored)
 
 pub first_of_each-requires : goal.first_of_each-requires
 first_of_each-requires c = samples_some c.args.writer.now.plan c.args.run.now c.in_ok-samples.samples.items c.requires.many c.requires.stored c.in_ok-samples.ensures

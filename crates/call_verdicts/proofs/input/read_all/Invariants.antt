@@ -6,8 +6,8 @@ use Rattle.call_verdicts.proofs.input.read_all.Given as goal
 abbrev pub invariant-loop-source : goal.invariant-loop-source
 invariant-loop-source g l = record {
   room : 0 < length l.piece.items;
-  whole : g.R.Source.left l.fn.source ≡ option_map (λ (rest : List ℕ). l.bytes.items ++ rest) (g.R.Source.left l.source);
-  same : g.R.Source.faults l.source ≡ g.R.Source.faults l.fn.source;
+  whole : (g.R.Source.told l.fn.source).left ≡ option_map (λ (rest : List ℕ). l.bytes.items ++ rest) (g.R.Source.told l.source).left;
+  same : (g.R.Source.told l.source).faults ≡ (g.R.Source.told l.fn.source).faults;
 }
 
 abbrev pub decreases-loop-source : goal.decreases-loop-source

@@ -6,5 +6,5 @@ use Rattle.call_verdicts.proofs.opening.read_script.Goals as goal
 
 pub returns-in-Err-TooLong-clause-refused : goal.returns-in-Err-TooLong-clause-refused
 returns-in-Err-TooLong-clause-refused g c =
-    refused_too_long (g.R.Source.left c.args.source.now) (g.R.Source.left c.read_all.new.source) (Rose (g.R.Source.faults c.args.source.now) (g.R.Source.faults c.read_all.new.source))
+    refused_too_long (g.R.Source.told c.args.source.now).left (g.R.Source.told c.read_all.new.source).left (Rose (g.R.Source.told c.args.source.now).faults (g.R.Source.told c.read_all.new.source).faults)
     (c.read_all.ensures.long (c.in-Err-TooLong.is ∙ ap Err c.in-Err-TooLong.field-0-is))

@@ -5,8 +5,8 @@ use Rattle.call_verdicts.proofs.output.write_all.Given as goal
 -- what was written and what is left is the text
 abbrev pub invariant-loop-left : goal.invariant-loop-left
 invariant-loop-left g l = record {
-  written : (front : List ℕ) × (l.text ≡ front ++ l.left) × (g.K.Sink.written l.out ≡ option_map (λ (bytes : List ℕ). bytes ++ front) (g.K.Sink.written l.fn.out));
-  later : g.K.Sink.faults l.fn.out ≤ g.K.Sink.faults l.out;
+  written : (front : List ℕ) × (l.text ≡ front ++ l.left) × ((g.K.Sink.told l.out).written ≡ option_map (λ (bytes : List ℕ). bytes ++ front) (g.K.Sink.told l.fn.out).written);
+  later : (g.K.Sink.told l.fn.out).faults ≤ (g.K.Sink.told l.out).faults;
 }
 
 abbrev pub decreases-loop-left : goal.decreases-loop-left

@@ -8,8 +8,8 @@ use Rattle.call_verdicts.proofs.shelf_loading.load_group.Given as goal
 -- the blocks so far are loaded
 abbrev pub invariant-loop-block : goal.invariant-loop-block
 invariant-loop-block g l = record {
-  loaded : AllZip (IsLoadedFor (g.F.Shelf.files l.initial.shelf)) (take l.block-index l.group) l.stages.items;
-  calm : g.F.Shelf.faults l.shelf ≡ g.F.Shelf.faults l.initial.shelf;
-  asked : (front : List Block) → WasRead g.F.Shelf.asked (shelf_ulids front) l.initial.shelf → WasRead g.F.Shelf.asked (shelf_ulids (front ++ take l.block-index l.group)) l.shelf;
-  same : g.F.Shelf.files l.shelf ≡ g.F.Shelf.files l.initial.shelf;
+  loaded : AllZip (IsLoadedFor (g.F.Shelf.told l.initial.shelf).files) (take l.block-index l.group) l.stages.items;
+  calm : (g.F.Shelf.told l.shelf).faults ≡ (g.F.Shelf.told l.initial.shelf).faults;
+  asked : (front : List Block) → WasRead g.F.Shelf.told (shelf_ulids front) l.initial.shelf → WasRead g.F.Shelf.told (shelf_ulids (front ++ take l.block-index l.group)) l.shelf;
+  same : (g.F.Shelf.told l.shelf).files ≡ (g.F.Shelf.told l.initial.shelf).files;
 }

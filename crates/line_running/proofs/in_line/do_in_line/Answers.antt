@@ -14,10 +14,10 @@ pub returns-in_default-new-clause-came : goal.returns-in_default-new-clause-came
 returns-in_default-new-clause-came g c = ([], (0, no_run g.R.Report.tells (setting_by c.args.script.now c.args.shelf.now) c.new-hand.result.world.journal c.empty-in_default-new.result (ap (λ w. w.journal) c.new-hand.ensures.world ∙ c.requires.fresh) (c.empty-in_default-new.ensures c.args.script.now)))
 
 pub returns-in_default-clause-keeps : goal.returns-in_default-clause-keeps
-returns-in_default-clause-keeps g c = kept_still g.B.Bucket.faults g.B.Bucket.quiet g.B.Bucket.asked c.args.world c.new-hand.result.world c.new-hand.result.opened.value c.new-hand.result.wanted c.new-hand.ensures.world c.new-hand.ensures.opened c.new-hand.ensures.wanted
+returns-in_default-clause-keeps g c = kept_still g.B.Bucket.told c.args.world c.new-hand.result.world c.new-hand.result.opened.value c.new-hand.result.wanted c.new-hand.ensures.world c.new-hand.ensures.opened c.new-hand.ensures.wanted
 
 pub returns-in_default-new-clause-keeps : goal.returns-in_default-new-clause-keeps
-returns-in_default-new-clause-keeps g c = kept_still g.B.Bucket.faults g.B.Bucket.quiet g.B.Bucket.asked c.args.world c.new-hand.result.world c.new-hand.result.opened.value c.new-hand.result.wanted c.new-hand.ensures.world c.new-hand.ensures.opened c.new-hand.ensures.wanted
+returns-in_default-new-clause-keeps g c = kept_still g.B.Bucket.told c.args.world c.new-hand.result.world c.new-hand.result.opened.value c.new-hand.result.wanted c.new-hand.ensures.world c.new-hand.ensures.opened c.new-hand.ensures.wanted
 
 pub run_phases-came-requires-clause-workers : goal.run_phases-came-requires-clause-workers
 run_phases-came-requires-clause-workers g c = no_seats (setting_by c.args.script.now c.lend-means.result.shelf) c.in-Ok-new.progress.workers c.in-Ok-new.ensures.workers
@@ -34,5 +34,5 @@ returns-clause-came g c = (
 
 pub returns-clause-keeps : goal.returns-clause-keeps
 returns-clause-keeps g c =
-    kept_since g.B.Bucket.faults g.B.Bucket.quiet g.B.Bucket.asked c.args.world c.new-hand.result.world c.new-hand.result.opened.value c.run_phases-came.result.1.opened.value c.new-hand.result.wanted c.run_phases-came.result.1.wanted c.run_phases-came.result.1.world
+    kept_since g.B.Bucket.told c.args.world c.new-hand.result.world c.new-hand.result.opened.value c.run_phases-came.result.1.opened.value c.new-hand.result.wanted c.run_phases-came.result.1.wanted c.run_phases-came.result.1.world
     c.new-hand.ensures.world c.new-hand.ensures.opened c.new-hand.ensures.wanted c.run_phases-came.ensures.keeps

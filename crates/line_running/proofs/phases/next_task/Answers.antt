@@ -3,7 +3,7 @@ use Rattle.std.specs.Prelude.{Result}
 use Rattle.report_lines.specs.lifecycle_core.specs.InLine.{seat_of}
 use Rattle.report_lines.specs.script_running.specs.Shelves.{setting_by}
 use Rattle.report_lines.specs.script_running.specs.declared.came.Broken.{Broken}
-use Rattle.report_lines.specs.script_running.specs.declared.outcome.Outcome.{Outcome}
+use Rattle.report_lines.specs.script_running.specs.Outcomes.{Outcome}
 use Rattle.line_running.specs.Progress.{TaskStep}
 use Rattle.line_running.proofs.Told.{cut_off, cut_short, done_more, later_begin, lent_step, on_ok}
 use Rattle.line_running.proofs.Wanted.{short_on}

@@ -6,7 +6,7 @@ use Rattle.line_running.proofs.phases.run_phases.Goals as goal
 pub loop-place-init : goal.loop-place-init
 loop-place-init g c = record {
   reached = c.requires.reached;
-  keeps = keeps_run-none g.B.Bucket.faults g.B.Bucket.quiet g.B.Bucket.asked c.args.hand.opened.value c.args.hand.wanted c.args.hand.world;
+  keeps = keeps_run-none g.B.Bucket.told c.args.hand.opened.value c.args.hand.wanted c.args.hand.world;
   unrefused = c.requires.unrefused;
   unwanted = c.requires.unwanted;
   workers = c.requires.workers;

@@ -9,7 +9,7 @@ use Rattle.report_lines.specs.script_running.specs.Shelves.{setting_by}
 abbrev pub invariant-loop-place : goal.invariant-loop-place
 invariant-loop-place g l = record {
   reached : Reached g.R.Report.tells (setting_by l.script l.means.shelf) l.place l.progress.gateways.items l.hand.world.journal l.progress.report;
-  keeps : KeepsRun g.B.Bucket.faults g.B.Bucket.quiet g.B.Bucket.asked l.initial.hand.opened.value l.initial.hand.wanted l.initial.hand.world l.hand.opened.value l.hand.wanted l.hand.world;
+  keeps : KeepsRun g.B.Bucket.told l.initial.hand.opened.value l.initial.hand.wanted l.initial.hand.world l.hand.opened.value l.hand.wanted l.hand.world;
   unrefused : l.hand.refused ≡ false;
   unwanted : l.hand.wanted ≡ false;
   workers : l.progress.workers ≡ seats_before l.script l.place;

@@ -13,7 +13,7 @@ use Rattle.line_running.proofs.phases.run_tasks.Goals as goal
 pub loop-place-init : goal.loop-place-init
 loop-place-init g c = record {
   done = λ views shows. done_none g.R.Report.tells (setting_by c.args.script.now c.args.means.now.shelf) (seat_of c.args.seats.now.workers) c.args.tasks.now views c.args.progress.now.gateways.items c.args.hand.world.journal c.empty-lines.result shows (c.empty-lines.ensures c.args.script.now);
-  keeps = keeps_run-none g.B.Bucket.faults g.B.Bucket.quiet g.B.Bucket.asked c.args.hand.opened.value c.args.hand.wanted c.args.hand.world;
+  keeps = keeps_run-none g.B.Bucket.told c.args.hand.opened.value c.args.hand.wanted c.args.hand.world;
   unrefused = c.requires.unrefused;
   unwanted = c.requires.unwanted;
   report = refl;
@@ -30,7 +30,7 @@ pub loop-place-preserved : goal.loop-place-preserved
 loop-place-preserved g c = record {
   done = λ views shows. MatchResult-at_ok (λ done. TasksDone g.R.Report.tells (setting_by c.args.script.now c.args.means.now.shelf) (seat_of c.args.seats.now.workers) (take (c.loop-place.place + 1) c.args.tasks.now) views c.next_task-came.new.progress.gateways.items c.args.hand.world.journal c.next_task-came.result.1.world.journal c.next_task-came.new.lines)
       _ c.in_default.field-0 c.in_default.is (c.next_task-came.ensures.came views c.args.hand.world.journal (c.loop-place.invariant.done views shows));
-  keeps = keeps_run-more g.B.Bucket.faults g.B.Bucket.quiet g.B.Bucket.asked c.args.hand.opened.value c.loop-place.hand.opened.value c.next_task-came.result.1.opened.value c.args.hand.wanted c.loop-place.hand.wanted c.next_task-came.result.1.wanted
+  keeps = keeps_run-more g.B.Bucket.told c.args.hand.opened.value c.loop-place.hand.opened.value c.next_task-came.result.1.opened.value c.args.hand.wanted c.loop-place.hand.wanted c.next_task-came.result.1.wanted
       c.args.hand.world c.loop-place.hand.world c.next_task-came.result.1.world
       c.loop-place.invariant.keeps c.next_task-came.ensures.keeps;
   unrefused = c.next_task-came.ensures.refused ∙ ap is_full_came c.in_default.is;

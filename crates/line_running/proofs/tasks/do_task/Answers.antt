@@ -17,7 +17,7 @@ returns-in_default-clause-step g c = λ views shows.
 pub loop-number-init : goal.loop-number-init
 loop-number-init g c = record {
   done = λ views shows. none_done (setting_by c.args.means.now.script c.args.means.now.shelf) (seat_of c.args.seats.now.workers) c.args.place c.args.task.now views c.args.progress.now.gateways.items c.args.hand.world.journal c.in-Ok.parts.items c.in-Ok.ensures.items shows;
-  keeps = keeps_run-none g.B.Bucket.faults g.B.Bucket.quiet g.B.Bucket.asked c.args.hand.opened.value c.args.hand.wanted c.args.hand.world;
+  keeps = keeps_run-none g.B.Bucket.told c.args.hand.opened.value c.args.hand.wanted c.args.hand.world;
   unrefused = c.requires.unrefused;
   unwanted = c.requires.unwanted;
   report = refl;
@@ -59,7 +59,7 @@ loop-number-preserved g c =
           part_more (setting_by c.args.means.now.script c.args.means.now.shelf) (seat_of c.args.seats.now.workers) c.args.place c.args.task.now views c.loop-number.number c.hand_at-who.result c.loop-number.progress.gateways.items c.do_part-came.new.progress.gateways.items
           c.args.hand.world.journal c.loop-number.hand.world.journal c.do_part-came.result.1.world.journal c.loop-number.parts.items f (duty_at (setting_by c.args.means.now.script c.args.means.now.shelf) c.args.place c.loop-number.number c.args.task.now c.hand_at-who.result at)
           c.do_part-came.result.0 c.in-Ok-came.part c.push_reserved.new.self.items c.in-Ok-came.is c.push_reserved.ensures.items (c.do_part-came.ensures.step f.after f.shows);
-      keeps = keeps_run-more g.B.Bucket.faults g.B.Bucket.quiet g.B.Bucket.asked c.args.hand.opened.value c.loop-number.hand.opened.value c.do_part-came.result.1.opened.value c.args.hand.wanted c.loop-number.hand.wanted c.do_part-came.result.1.wanted
+      keeps = keeps_run-more g.B.Bucket.told c.args.hand.opened.value c.loop-number.hand.opened.value c.do_part-came.result.1.opened.value c.args.hand.wanted c.loop-number.hand.wanted c.do_part-came.result.1.wanted
           c.args.hand.world c.loop-number.hand.world c.do_part-came.result.1.world
           c.loop-number.invariant.keeps c.do_part-came.ensures.keeps;
       unrefused = c.do_part-came.ensures.refused ∙ ap is_full_came c.in-Ok-came.is;

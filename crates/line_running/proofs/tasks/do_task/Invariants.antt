@@ -12,7 +12,7 @@ abbrev pub invariant-loop-number : goal.invariant-loop-number
 invariant-loop-number g l = record {
   done : (views : Holdings) → AreSeen views l.initial.progress.gateways.items
       → Front (setting_by l.means.script l.means.shelf) (seat_of l.seats.workers) l.place l.task views l.number l.progress.gateways.items l.initial.hand.world.journal l.hand.world.journal l.parts.items;
-  keeps : KeepsRun g.B.Bucket.faults g.B.Bucket.quiet g.B.Bucket.asked l.initial.hand.opened.value l.initial.hand.wanted l.initial.hand.world l.hand.opened.value l.hand.wanted l.hand.world;
+  keeps : KeepsRun g.B.Bucket.told l.initial.hand.opened.value l.initial.hand.wanted l.initial.hand.world l.hand.opened.value l.hand.wanted l.hand.world;
   unrefused : l.hand.refused ≡ false;
   unwanted : l.hand.wanted ≡ false;
   report : l.progress.report ≡ l.initial.progress.report;

@@ -5,4 +5,4 @@ use Rattle.world_core.proofs.BegunDrives.{begun_as}
 use Rattle.meta_fetcher.proofs.running.run_sync.Goals as goal
 
 pub returns-clause-run : goal.returns-clause-run
-returns-clause-run g c = begun_as _ (SyncRun c.args.rules) c.start.result (g.H.Hand.seat c.args.hand.now) None c.run_begun.result (g.H.Hand.entries c.args.hand.now) (g.H.Hand.entries c.run_begun.new.hand) refl c.start.ensures.run c.run_begun.ensures.run
+returns-clause-run g c = begun_as _ (SyncRun c.args.rules) c.start.result (g.H.Hand.told c.args.hand.now).seat None c.run_begun.result (g.H.Hand.told c.args.hand.now).entries (g.H.Hand.told c.run_begun.new.hand).entries refl c.start.ensures.run c.run_begun.ensures.run

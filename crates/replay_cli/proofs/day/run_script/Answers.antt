@@ -35,20 +35,20 @@ returns-clause-came g c =
     c.verdict_on-verdict.ensures.full c.verdict_on-verdict.ensures.none)
 
 pub returns-clause-back : goal.returns-clause-back
-returns-clause-back g c = true_parts g.B.Bucket.contents g.B.Bucket.faults c.of_hand.result.world c.into_parts-note.result.1 c.into_parts-note.result.2 c.into_parts-note.ensures.journal c.into_parts-note.ensures.bucket c.into_parts-note.ensures.holds
+returns-clause-back g c = true_parts g.B.Bucket.told c.of_hand.result.world c.into_parts-note.result.1 c.into_parts-note.result.2 c.into_parts-note.ensures.journal c.into_parts-note.ensures.bucket c.into_parts-note.ensures.holds
 
 pub returns-clause-unfailed : goal.returns-clause-unfailed
 returns-clause-unfailed g c =
-    never_failed g.B.Bucket.faults g.B.Bucket.quiet c.args.world c.do_in_line-came.result.2.world c.into_parts-note.result.1 c.requires.fresh (c.into_parts-note.ensures.journal ∙ ap (λ w. w.journal) c.of_hand.ensures.world) c.do_in_line-came.ensures.keeps.goes_on
+    never_failed g.B.Bucket.told c.args.world c.do_in_line-came.result.2.world c.into_parts-note.result.1 c.requires.fresh (c.into_parts-note.ensures.journal ∙ ap (λ w. w.journal) c.of_hand.ensures.world) c.do_in_line-came.ensures.keeps.goes_on
 
 pub returns-clause-noted : goal.returns-clause-noted
 returns-clause-noted g c =
     let hand = c.do_in_line-came.result.2 in
     let v = c.verdict_on-verdict.result in
-    noted_as met g.B.Bucket.asked v v c.of_hand.result.world (Some c.into_parts-note.result.1) (Some c.into_parts-note.result.2) c.of_hand.result.note c.into_parts-note.result.0
+    noted_as met g.B.Bucket.told v v c.of_hand.result.world (Some c.into_parts-note.result.1) (Some c.into_parts-note.result.2) c.of_hand.result.note c.into_parts-note.result.0
     refl (ap (λ j. Some j) c.into_parts-note.ensures.journal) (ap (λ b. Some b) c.into_parts-note.ensures.bucket) c.into_parts-note.ensures.note
-    (noted_world met g.B.Bucket.asked v c.of_hand.result.world hand.refused hand.wanted c.of_hand.result.note c.of_hand.ensures.note
+    (noted_world met g.B.Bucket.told v c.of_hand.result.world hand.refused hand.wanted c.of_hand.result.note c.of_hand.ensures.note
     (c.do_in_line-came.ensures.refused ∙ day_full_told c.args.script.now c.entries.result.now c.do_in_line-came.result.1 c.do_in_line-came.result.0 v c.verdict_on-verdict.ensures.whole c.verdict_on-verdict.ensures.full c.verdict_on-verdict.ensures.none)
     (short_by hand.wanted v (λ so. c.verdict_on-verdict.ensures.none (c.do_in_line-came.ensures.wanted so)))
-    (λ never. run_asked g.B.Bucket.asked c.args.world c.of_hand.result.world c.requires.fresh c.requires.asked
-    (λ before was. subst (IsAllAsked g.B.Bucket.asked before) (sym c.of_hand.ensures.world) (c.do_in_line-came.ensures.keeps.asks.all never before was))))
+    (λ never. run_asked g.B.Bucket.told c.args.world c.of_hand.result.world c.requires.fresh c.requires.asked
+    (λ before was. subst (IsAllAsked g.B.Bucket.told before) (sym c.of_hand.ensures.world) (c.do_in_line-came.ensures.keeps.asks.all never before was))))

@@ -48,12 +48,12 @@ returns g c =
           (ap (λ w. Some w.journal) over) c.requires.lawful kept bytes c.do_in_line-came.ensures.full c.do_in_line-came.ensures.came.1
           (ends_over c.args.script.now c.entries.result.now c.do_in_line-came.result.2.world.journal c.do_in_line-came.result.1 v (c.entries.ensures ∙ c.journal-journal.ensures.journal ∙ ap (λ w. w.journal) c.world-world.ensures) c.verdict_of-verdict.ensures.whole)
           c.verdict_of-verdict.ensures.full c.verdict_of-verdict.ensures.none;
-      unfailed = λ none. ap (λ w. g.B.Bucket.faults w.bucket) over
-          ∙ unfailed_run g.B.Bucket.faults g.B.Bucket.quiet c.args.world c.do_in_line-came.result.2.world c.requires.fresh c.do_in_line-came.ensures.keeps.goes_on (sym (ap (λ w. failed_count w.journal) over) ∙ none);
-      all = λ never before was. subst (IsAllAsked g.B.Bucket.asked before) (sym over)
+      unfailed = λ none. ap (λ w. (g.B.Bucket.told w.bucket).faults) over
+          ∙ unfailed_run g.B.Bucket.told c.args.world c.do_in_line-came.result.2.world c.requires.fresh c.do_in_line-came.ensures.keeps.goes_on (sym (ap (λ w. failed_count w.journal) over) ∙ none);
+      all = λ never before was. subst (IsAllAsked g.B.Bucket.told before) (sym over)
           (asks (unwanted_by hand.wanted v never (λ so. c.verdict_of-verdict.ensures.none (c.do_in_line-came.ensures.wanted so))) before was);
-      noted = noted_world met g.B.Bucket.asked v world hand.refused hand.wanted c.of_hand.result.note c.of_hand.ensures.note
+      noted = noted_world met g.B.Bucket.told v world hand.refused hand.wanted c.of_hand.result.note c.of_hand.ensures.note
           (c.do_in_line-came.ensures.refused ∙ full_told c.args.script.now c.entries.result.now c.do_in_line-came.result.1 c.do_in_line-came.result.0 v c.verdict_of-verdict.ensures.whole c.verdict_of-verdict.ensures.full c.verdict_of-verdict.ensures.none)
           (short_by hand.wanted v (λ so. c.verdict_of-verdict.ensures.none (c.do_in_line-came.ensures.wanted so)))
-          (λ never. run_asked g.B.Bucket.asked c.args.world world c.requires.fresh c.requires.asked (λ before was. subst (IsAllAsked g.B.Bucket.asked before) (sym over) (asks never before was)));
+          (λ never. run_asked g.B.Bucket.told c.args.world world c.requires.fresh c.requires.asked (λ before was. subst (IsAllAsked g.B.Bucket.told before) (sym over) (asks never before was)));
     }

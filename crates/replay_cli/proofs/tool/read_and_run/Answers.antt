@@ -4,7 +4,7 @@ use Rattle.replay_cli.proofs.tool.read_and_run.Goals as goal
 
 pub returns-in-Ok : goal.returns-in-Ok
 returns-in-Ok g c =
-    ran _ in_line c.in-Ok.field-0 c.members.result.now c.run_in_line-verdict.result.1.world c.run_in_line-verdict.result.1.note c.run_in_line-verdict.result.0 c.end_run.result
+    ran _ _ _ in_line c.in-Ok.field-0 c.members.result.now c.run_in_line-verdict.result.1.world c.run_in_line-verdict.result.1.note c.run_in_line-verdict.result.0 c.end_run.result
     c.members.ensures c.in-Ok.ensures c.run_in_line-verdict.ensures c.end_run.ensures
 
 pub returns-in-Err : goal.returns-in-Err

@@ -1,5 +1,5 @@
 use Rattle.std.proofs.Common.{◌≡◌, Option, List, length, drop}
-use Rattle.script_running.specs.declared.part.Part.{Part}
+use Rattle.script_running.specs.Outcomes.{Part}
 use Rattle.script_running.specs.Gathering.{AreLaid}
 use Rattle.script_running.proofs.gathering.lay.Given as goal
 

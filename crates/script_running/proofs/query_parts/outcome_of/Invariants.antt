@@ -1,7 +1,7 @@
 use Rattle.std.proofs.Common.{◌≡◌, List, length, map}
 use Rattle.script_running.specs.Given.{HasGiven}
-use Rattle.script_running.specs.declared.part.Part.TheVariants as part
-use Rattle.script_running.specs.declared.part.QueryPart.{QueryPart}
+use Rattle.script_running.specs.declared.came.Came.TheVariants as part
+use Rattle.script_running.specs.declared.outcome.QueryPart.{QueryPart}
 use Rattle.script_running.proofs.query_parts.outcome_of.Given as goal
 
 -- the parts so far are those of gateways

@@ -2,18 +2,15 @@ use Rattle.std.proofs.Common.{refl}
 use Rattle.compactor.specs.Compactions.{compaction}
 use Rattle.script_workers.specs.declared.work.Work.TheVariants as works
 use Rattle.lifecycle_core.specs.Tasks.{compacted}
-use Rattle.script_running.specs.Drives.{compact_came}
-use Rattle.script_running.specs.Outcomes.{compact_outcome}
-use Rattle.script_running.specs.declared.outcome.CompactOutcome.TheVariants as compact
-use Rattle.script_running.specs.declared.part.Part.TheVariants as part
+use Rattle.script_running.specs.declared.came.Came.TheVariants as part
 use Rattle.script_running.proofs.Stopped.{stopped_told}
-use Rattle.script_running.proofs.Syncs.{wanted_by}
+use Rattle.script_running.proofs.Leaving.{stop_left}
 use Rattle.script_running.proofs.upkeep.compact.Goals as goal
 
 pub returns-clause-ran : goal.returns-clause-ran
 returns-clause-ran g c =
-    stopped_told (compaction c.args.rules.now) compacted (λ end. part.Compact (compact_outcome end)) (λ n. part.Compact (compact.Stopped n)) c.args.stop (g.H.Hand.seat c.args.hand.now) c.run_compaction.result (g.H.Hand.entries c.args.hand.now) (g.H.Hand.entries c.run_compaction.new.hand)
-    c.stopped_came.result (works.Compact c.args.stop) c.stopped_came.ensures (record { ends = λ end. refl; stops = λ n. refl }) c.run_compaction.ensures.run
+    stopped_told (compaction c.args.rules.now) compacted (λ end. part.Compact end) c.args.stop (g.H.Hand.told c.args.hand.now).seat c.run_compaction.result (g.H.Hand.told c.args.hand.now).entries (g.H.Hand.told c.run_compaction.new.hand).entries
+    c.compact_came.result (works.Compact c.args.stop) c.compact_came.ensures (record { ends = λ end. refl; stops = λ n. refl }) c.run_compaction.ensures.run
 
-pub returns-clause-wanted : goal.returns-clause-wanted
-returns-clause-wanted g c = wanted_by compact_came c.run_compaction.result c.stopped_came.result refl c.stopped_came.ensures c.run_compaction.ensures.wanted
+pub returns-clause-hand : goal.returns-clause-hand
+returns-clause-hand g c = stop_left g.H.Hand.told g.H.Hand.keeps (λ end. part.Compact end) _ _ c.run_compaction.result c.compact_came.result c.compact_came.ensures c.run_compaction.ensures.hand

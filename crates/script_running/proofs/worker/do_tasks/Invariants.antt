@@ -1,5 +1,5 @@
-use Rattle.std.proofs.Common.{◌≡◌, ◌≤◌, length, take}
-use Rattle.std.specs.Prelude.{IsTrue}
+use Rattle.std.proofs.Common.{◌≡◌, ◌≤◌, false, length, take}
+use Rattle.world_core.specs.Turning.{Turned}
 use Rattle.lifecycle_core.specs.Conducts.{Who}
 use Rattle.lifecycle_core.specs.Holdings.{Holding}
 use Rattle.script_running.specs.Lending.{setting_in}
@@ -13,11 +13,8 @@ invariant-loop-number g l =
     let h = g.H.Hand in
     record {
       worked : (who : Who) (held : Holding) → who.gateway ≡ l.gateway → Sees held l.initial.sight
-          → Worked (setting_in l.means) l.tasks who (take l.number l.places) held (h.seat l.initial.hand) (h.entries l.initial.hand) (h.entries l.hand) l.sight l.parts.items;
-      seat : h.seat l.hand ≡ h.seat l.initial.hand;
-      refused : h.refused l.hand ≡ h.refused l.initial.hand;
-      keeps : h.keeps l.initial.hand l.hand;
-      wanted : IsTrue (h.wanted l.hand) → IsTrue (h.wanted l.initial.hand);
+          → Worked (setting_in l.means) l.tasks who (take l.number l.places) held (h.told l.initial.hand).seat (h.told l.initial.hand).entries (h.told l.hand).entries l.sight l.parts.items;
+      turned : Turned h.told h.keeps l.initial.hand l.hand false false;
       count : length l.parts.items ≡ l.number;
       room : length l.places ≤ l.parts.cap;
     }

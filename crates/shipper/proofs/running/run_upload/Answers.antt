@@ -5,4 +5,4 @@ use Rattle.world_core.proofs.BegunDrives.{begun_as}
 use Rattle.shipper.proofs.running.run_upload.Goals as goal
 
 pub returns-clause-run : goal.returns-clause-run
-returns-clause-run g c = λ ulid block. begun_as _ (Runs (upload ulid c.args.objects)) c.start.result (g.H.Hand.seat c.args.hand.now) c.args.stop c.run_begun.result (g.H.Hand.entries c.args.hand.now) (g.H.Hand.entries c.run_begun.new.hand) (breaks_off (upload ulid c.args.objects)) (c.start.ensures.run ulid block) c.run_begun.ensures.run
+returns-clause-run g c = λ ulid block. begun_as _ (Runs (upload ulid c.args.objects)) c.start.result (g.H.Hand.told c.args.hand.now).seat c.args.stop c.run_begun.result (g.H.Hand.told c.args.hand.now).entries (g.H.Hand.told c.run_begun.new.hand).entries (breaks_off (upload ulid c.args.objects)) (c.start.ensures.run ulid block) c.run_begun.ensures.run

@@ -9,5 +9,5 @@ use Rattle.world_core.proofs.bucket_calls.block_page.Goals as goal
 
 pub returns-clause-asks : goal.returns-clause-asks
 returns-clause-asks g c =
-    asks_once g.B.Bucket.asked page_reply _ _ (BlockPage c.args.ulid c.args.after.now c.args.limit) (lists (text_of c.args.ulid) c.args.after.now c.args.limit) _ _ NoMemory (record {}) _ refl
+    asks_once g.B.Bucket.told page_reply _ _ (BlockPage c.args.ulid c.args.after.now c.args.limit) (lists (text_of c.args.ulid) c.args.after.now c.args.limit) _ _ NoMemory (record {}) _ refl
     (cc (c.as_str.ensures, c.in_ok-name.ensures)) refl c.page_reply.ensures c.page.ensures.asks

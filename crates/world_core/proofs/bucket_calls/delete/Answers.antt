@@ -7,5 +7,5 @@ use Rattle.world_core.proofs.bucket_calls.delete.Goals as goal
 
 pub returns-clause-asks : goal.returns-clause-asks
 returns-clause-asks g c =
-    asks_call g.B.Bucket.asked _ _ (Delete c.args.key) (deletes (key_text c.args.key)) _ _ refl
+    asks_call g.B.Bucket.told _ _ (Delete c.args.key) (deletes (key_text c.args.key)) _ _ refl
     (cc (c.as_str.ensures, c.in_ok-name.ensures.value)) c.delete.ensures.asks

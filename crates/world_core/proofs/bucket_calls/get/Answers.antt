@@ -9,5 +9,5 @@ use Rattle.world_core.proofs.bucket_calls.get.Goals as goal
 
 pub returns-clause-asks : goal.returns-clause-asks
 returns-clause-asks g c =
-    asks_once g.B.Bucket.asked get_reply _ _ (Get c.args.key) (gets (key_text c.args.key)) _ _ NoMemory (record {}) _ refl
+    asks_once g.B.Bucket.told get_reply _ _ (Get c.args.key) (gets (key_text c.args.key)) _ _ NoMemory (record {}) _ refl
     (cc (c.as_str.ensures, c.in_ok-name.ensures.value)) refl c.get_reply.ensures c.get.ensures.asks

@@ -13,5 +13,5 @@ put-requires g c = IsKey-text _ _ c.args.key c.as_str.ensures c.in_ok-name.ensur
 
 pub returns-clause-asks : goal.returns-clause-asks
 returns-clause-asks g c =
-    asks_once g.B.Bucket.asked put_reply _ _ (Put c.args.key c.args.bytes.now) (puts (key_text c.args.key) c.args.bytes.now) _ _ NoMemory (record {}) _ refl
+    asks_once g.B.Bucket.told put_reply _ _ (Put c.args.key c.args.bytes.now) (puts (key_text c.args.key) c.args.bytes.now) _ _ NoMemory (record {}) _ refl
     (cc (c.as_str.ensures, c.in_ok-name.ensures.value)) refl c.put_reply.ensures c.put.ensures.asks

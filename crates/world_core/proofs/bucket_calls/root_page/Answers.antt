@@ -8,5 +8,5 @@ use Rattle.world_core.proofs.bucket_calls.root_page.Goals as goal
 
 pub returns-clause-asks : goal.returns-clause-asks
 returns-clause-asks g c =
-    asks_once g.B.Bucket.asked page_reply _ _ (RootPage c.args.after.now c.args.limit) (lists [] c.args.after.now c.args.limit) _ _ NoMemory (record {}) _ refl
+    asks_once g.B.Bucket.told page_reply _ _ (RootPage c.args.after.now c.args.limit) (lists [] c.args.after.now c.args.limit) _ _ NoMemory (record {}) _ refl
     (cc (c.as_str.ensures)) refl c.page_reply.ensures c.page.ensures.asks

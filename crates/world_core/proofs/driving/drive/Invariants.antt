@@ -1,4 +1,5 @@
-use Rattle.std.proofs.Common.{◌≡◌, IsTrue}
+use Rattle.std.proofs.Common.{false}
+use Rattle.world_core.specs.Turning.{Turned}
 use Rattle.world_core.proofs.Turns.{Waiting}
 use Rattle.world_core.proofs.driving.drive.Given as goal
 
@@ -7,11 +8,8 @@ invariant-turns g l =
     let m = g.M.Machine in
     let h = g.H.Hand in
     record {
-      waiting : Waiting m.may m.asked (h.seat l.fn.hand) l.last l.fn.machine (h.entries l.fn.hand) l.op l.answered l.machine (h.entries l.hand);
-      seat : h.seat l.hand ≡ h.seat l.fn.hand;
-      refused : h.refused l.hand ≡ h.refused l.fn.hand;
-      wanted : IsTrue (h.wanted l.hand) → IsTrue (h.wanted l.fn.hand);
-      keeps : h.keeps l.fn.hand l.hand;
+      waiting : Waiting m.may m.asked (h.told l.fn.hand).seat l.last l.fn.machine (h.told l.fn.hand).entries l.op l.answered l.machine (h.told l.hand).entries;
+      turned : Turned h.told h.keeps l.fn.hand l.hand false false;
     }
 
 abbrev pub decreases-turns : goal.decreases-turns

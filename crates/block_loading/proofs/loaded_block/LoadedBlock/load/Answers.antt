@@ -20,7 +20,7 @@ returns-in_err-files-clause-refuses g c = λ told h refusal is. error_on c.from_
     (says_refuses files_read told c.args.ulid (Err c.in_err-files.field-0.0) refusal (c.in_err-files.ensures.loaded told h) is)
 
 pub returns-in_err-files-clause-asks : goal.returns-in_err-files-clause-asks
-returns-in_err-files-clause-asks g c = asked_on g.F.Shelf.files g.F.Shelf.asked g.F.Shelf.faults _ _ _ _ c.args.ulid (StopsAt c.args.ulid) (StopsAt c.args.ulid) c.from_residual.result c.in_err-files.field-0.0 c.from_residual.ensures.1 (λ count refusal stops. stops) c.in_err-files.ensures.asks
+returns-in_err-files-clause-asks g c = asked_on g.F.Shelf.told _ _ _ _ c.args.ulid (StopsAt c.args.ulid) (StopsAt c.args.ulid) c.from_residual.result c.in_err-files.field-0.0 c.from_residual.ensures.1 (λ count refusal stops. stops) c.in_err-files.ensures.asks
 
 -- ---- it was loaded
 
@@ -28,12 +28,12 @@ pub returns-clause-found : goal.returns-clause-found
 returns-clause-found g c = λ told h. load_found told c.args.ulid c.in_ok-files.files (c.in_ok-files.ensures.loaded told h)
 
 pub returns-clause-only : goal.returns-clause-only
-returns-clause-only g c = λ told h files is. inl (answered (c.in_ok-files.files, c.in_ok-files.indexed)
-    (says_only files_read told c.args.ulid (Ok (c.in_ok-files.files, c.in_ok-files.indexed)) files (c.in_ok-files.ensures.loaded told h) is))
+returns-clause-only g c = λ told h files is. inl (answered c.in_ok-files.files
+    (says_only files_read told c.args.ulid (Ok c.in_ok-files.files) files (c.in_ok-files.ensures.loaded told h) is))
 
 pub returns-clause-refuses : goal.returns-clause-refuses
-returns-clause-refuses g c = λ told h refusal is. absurd (not_stopped (c.in_ok-files.files, c.in_ok-files.indexed) refusal
-    (says_refuses files_read told c.args.ulid (Ok (c.in_ok-files.files, c.in_ok-files.indexed)) refusal (c.in_ok-files.ensures.loaded told h) is))
+returns-clause-refuses g c = λ told h refusal is. absurd (not_stopped c.in_ok-files.files refusal
+    (says_refuses files_read told c.args.ulid (Ok c.in_ok-files.files) refusal (c.in_ok-files.ensures.loaded told h) is))
 
 pub returns-clause-asks : goal.returns-clause-asks
-returns-clause-asks g c = asked_whole g.F.Shelf.files g.F.Shelf.asked g.F.Shelf.faults _ _ _ _ c.args.ulid (StopsAt c.args.ulid) (StopsAt c.args.ulid) _ _ refl (λ count whole. tt) refl c.in_ok-files.ensures.asks
+returns-clause-asks g c = asked_whole g.F.Shelf.told _ _ _ _ c.args.ulid (StopsAt c.args.ulid) (StopsAt c.args.ulid) _ _ refl (λ count whole. tt) refl c.in_ok-files.ensures.asks

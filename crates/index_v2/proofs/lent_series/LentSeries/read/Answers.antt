@@ -12,13 +12,13 @@ pub returns-in-Err : goal.returns-in-Err
 returns-in-Err c = labelled_no_labels _ _ _ _ _ c.in_ok-count.ensures _ c.in-Err.ensures
 
 pub returns-in_err-chunks : goal.returns-in_err-chunks
-returns-in_err-chunks c = gives_refused _ _ _ _ _ c.from_residual-in_err-chunks.ensures.1 (labelled_no_chunks _ _ _ _ _ c.in_ok-count.ensures _ _ c.in-Ok.ensures _ c.in_err-chunks.ensures)
+returns-in_err-chunks c = gives_refused _ _ _ _ _ c.from_residual-in_err-chunks.ensures.1 (labelled_no_chunks _ _ _ _ _ c.in_ok-count.ensures _ _ c.in-Ok.ensures _ c.in_err-chunks.ensures.exact)
 
 pub invariant_of-result : goal.invariant_of-result
 invariant_of-result c = labels_lawful_read _ _ _ _ _ (texts_told _ _ _ _ _ _ _ c.in-Ok.ensures c.in-Ok-texts.is)
 
 pub returns-in-Ok-texts : goal.returns-in-Ok-texts
-returns-in-Ok-texts c = labelled_by _ _ _ _ _ c.in_ok-count.ensures _ _ (texts_told _ _ _ _ _ _ _ c.in-Ok.ensures c.in-Ok-texts.is) _ c.in_ok-chunks.ensures
+returns-in-Ok-texts c = labelled_by _ _ _ _ _ c.in_ok-count.ensures _ _ (texts_told _ _ _ _ _ _ _ c.in-Ok.ensures c.in-Ok-texts.is) _ c.in_ok-chunks.ensures.exact
 
 pub returns-in-Err-texts : goal.returns-in-Err-texts
-returns-in-Err-texts c = inr (labelled_by _ _ _ _ _ c.in_ok-count.ensures _ _ (texts_told _ _ _ _ _ _ _ c.in-Ok.ensures c.in-Err-texts.is) _ c.in_ok-chunks.ensures)
+returns-in-Err-texts c = inr (labelled_by _ _ _ _ _ c.in_ok-count.ensures _ _ (texts_told _ _ _ _ _ _ _ c.in-Ok.ensures c.in-Err-texts.is) _ c.in_ok-chunks.ensures.exact)

@@ -1,9 +1,10 @@
-use Rattle.std.proofs.Common.{◌≡◌, ◌++◌, ◌<◌, inl, inr, ℕ, List, length, sym, ap, subst}
+use Rattle.std.proofs.Common.{◌≡◌, ◌++◌, ◌<◌, ℕ, List, length, sym, ap, subst}
 use Rattle.std.specs.List.{All}
 use Rattle.world_core.specs.declared.entry.Entry.{Entry}
 use Rattle.script_workers.specs.declared.task.Task.{Task}
 use Rattle.script_running.specs.Lending.{setting_in}
-use Rattle.script_running.specs.Workers.{HasWorked, MayWork, Post, is_short_end}
+use Rattle.script_running.specs.Tasks.{is_full_came}
+use Rattle.script_running.specs.Workers.{HasWorked, MayWork, Post}
 use Rattle.script_running.proofs.JobSteps.{allows_all, may_work}
 use Rattle.script_running.proofs.worker.WorkerJobJob.run.Goals as goal
 
@@ -24,14 +25,14 @@ pub returns-clause-run : goal.returns-clause-run
 returns-clause-run g c =
     let i = c.self.inside in
     let a = c.self.invariant in
-    subst (λ (post : Post). (made : List Entry) × (g.H.Hand.entries c.do_tasks.new.hand ≡ g.H.Hand.entries c.args.hand.now ++ made) × MayWork post (g.H.Hand.seat c.args.hand.now) made (g.H.Hand.front c.do_tasks.new.hand) c.do_tasks.result) c.self.view_is
+    subst (λ (post : Post). (made : List Entry) × ((g.H.Hand.told c.do_tasks.new.hand).entries ≡ (g.H.Hand.told c.args.hand.now).entries ++ made) × MayWork post (g.H.Hand.told c.args.hand.now).seat made (g.H.Hand.told c.do_tasks.new.hand).front c.do_tasks.result) c.self.view_is
     (may_work (record { loan = i.means.now; phase = i.phase; worker = i.worker; sight = i.sight }) a.phase a.at
-    (g.H.Hand.seat c.args.hand.now) (g.H.Hand.entries c.args.hand.now) (g.H.Hand.entries c.do_tasks.new.hand) (g.H.Hand.front c.do_tasks.new.hand) c.do_tasks.result
+    (g.H.Hand.told c.args.hand.now).seat (g.H.Hand.told c.args.hand.now).entries (g.H.Hand.told c.do_tasks.new.hand).entries (g.H.Hand.told c.do_tasks.new.hand).front c.do_tasks.result
     (λ who held by sees.
-    subst (λ (ts : List Task). HasWorked (setting_in i.means.now) ts who i.worker.tasks held (g.H.Hand.seat c.args.hand.now) (g.H.Hand.entries c.args.hand.now) (g.H.Hand.entries c.do_tasks.new.hand) c.do_tasks.result) a.own
-    (subst (λ (ps : List ℕ). HasWorked (setting_in i.means.now) i.tasks.now who ps held (g.H.Hand.seat c.args.hand.now) (g.H.Hand.entries c.args.hand.now) (g.H.Hand.entries c.do_tasks.new.hand) c.do_tasks.result) c.members-places.ensures
+    subst (λ (ts : List Task). HasWorked (setting_in i.means.now) ts who i.worker.tasks held (g.H.Hand.told c.args.hand.now).seat (g.H.Hand.told c.args.hand.now).entries (g.H.Hand.told c.do_tasks.new.hand).entries c.do_tasks.result) a.own
+    (subst (λ (ps : List ℕ). HasWorked (setting_in i.means.now) i.tasks.now who ps held (g.H.Hand.told c.args.hand.now).seat (g.H.Hand.told c.args.hand.now).entries (g.H.Hand.told c.do_tasks.new.hand).entries c.do_tasks.result) c.members-places.ensures
     (c.do_tasks.ensures.worked who held by sees)))
-    c.do_tasks.ensures.full)
+    (λ is. c.do_tasks.ensures.hand.is_full (ap is_full_came is)))
 
-pub returns-clause-wanted : goal.returns-clause-wanted
-returns-clause-wanted g c = λ so. elim (c.do_tasks.ensures.wanted so) [ inl before ↦ inl before | inr none ↦ inr (ap is_short_end none) ]
+pub returns-clause-hand : goal.returns-clause-hand
+returns-clause-hand g c = c.do_tasks.ensures.hand

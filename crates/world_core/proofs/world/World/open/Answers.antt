@@ -7,7 +7,7 @@ pub returns-in-None-clause-empty : goal.returns-in-None-clause-empty
 returns-in-None-clause-empty g c = opened_empty _ c.in-Names.names (λ d key told some. g.met.B.Bucket.only_keys c.args.bucket d key told some) (sym c.first_name.ensures ∙ c.in-None.is) c.in-Names.ensures.shown
 
 pub invariant_of-result : goal.invariant_of-result
-invariant_of-result g c = opened_sound g.B.Bucket.contents g.B.Bucket.faults c.args.bucket c.page.new.self c.empty.result c.args.tick.ms c.empty.ensures c.requires c.in-Names.ensures.left (returns-in-None-clause-empty g c)
+invariant_of-result g c = opened_sound g.B.Bucket.told c.args.bucket c.page.new.self c.empty.result c.args.tick.ms c.empty.ensures c.requires c.in-Names.ensures.left (returns-in-None-clause-empty g c)
 
 pub returns-in-None-clause-holds : goal.returns-in-None-clause-holds
 returns-in-None-clause-holds g c = (invariant_of-result g c).world

@@ -23,11 +23,11 @@ settle-requires-clause-worked g c =
       world,
       ap (λ x. x.1) m,
       subst (λ (u : View). world.journal ≡ u.held ++ gained u.seat c.of-asked.result.value a) (sym (ap (λ x. x.0) m)) (c.act-acted.ensures.added ∙ (ap (λ (n : ℕ). j ++ gained n c.args.op a) seat ∙ ap (λ o. j ++ gained (c.into_seat-place.result.me.0).seat o a) (sym c.of-asked.ensures))),
-      subst (λ (u : View). ComesFrom g.B.Bucket.faults (opened_of u) world) (sym (ap (λ x. x.0) m))
-          (still_from g.B.Bucket.faults g.B.Bucket.quiet (opened_of c.into_seat-place.result.me.0) c.take_turn-world.result world c.args.pass.seat c.args.op a c.act-acted.ensures.added c.act-acted.ensures.tick c.act-acted.ensures.later
+      subst (λ (u : View). ComesFrom g.B.Bucket.told (opened_of u) world) (sym (ap (λ x. x.0) m))
+          (still_from g.B.Bucket.told (opened_of c.into_seat-place.result.me.0) c.take_turn-world.result world c.args.pass.seat c.args.op a c.act-acted.ensures.added c.act-acted.ensures.tick c.act-acted.ensures.later
           c.act-acted.ensures.only c.act-acted.ensures.calm c.take_turn-world.ensures.comes),
       c.act-acted.ensures.holds.journal.few,
-      subst (λ (u : View). a ≢ NoMemory → u.held_wanted ≡ false → AsksFrom g.B.Bucket.asked (opened_of u) world) (sym (ap (λ x. x.0) m))
+      subst (λ (u : View). a ≢ NoMemory → u.held_wanted ≡ false → AsksFrom g.B.Bucket.told (opened_of u) world) (sym (ap (λ x. x.0) m))
           (λ done never before all. c.act-acted.ensures.all done before (c.take_turn-world.ensures.holds.2 never before all)),
     )
 

@@ -13,7 +13,7 @@ join_seat-requires g c =
       c.into_seat.ensures.0 ∙ c.requires.worker,
       c.into_seat.ensures.3,
       search rules,
-      joins (λ w. w.journal) (λ w. w.tick) (λ w. g.B.Bucket.faults w.bucket) (λ w. g.B.Bucket.asked w.bucket) _ _ _ _ _ (c.into_seat-place.ensures.1 ∙ r.first c.requires.own.1) (ap (λ v. v.live) is ∙ r.live) (ap (λ v. v.holds) is ∙ r.rests) (ap (λ v. v.live) is' ∙ r'.live) (ap (λ v. v.holds) is' ∙ r'.rests) (ap (λ v. v.beside) is ∙ r.compared) (ap (λ v. v.beside) is' ∙ r'.compared),
+      joins (λ w. w.journal) (λ w. w.tick) (λ w. g.B.Bucket.told w.bucket) _ _ _ _ _ (c.into_seat-place.ensures.1 ∙ r.first c.requires.own.1) (ap (λ v. v.live) is ∙ r.live) (ap (λ v. v.holds) is ∙ r.rests) (ap (λ v. v.live) is' ∙ r'.live) (ap (λ v. v.holds) is' ∙ r'.rests) (ap (λ v. v.beside) is ∙ r.compared) (ap (λ v. v.beside) is' ∙ r'.compared),
     )
 
 pub load-requires : goal.load-requires
@@ -21,4 +21,4 @@ load-requires g c =
     let is = sym (ap first_of c.into_seat-place.ensures.2) in
     let r = c.args.root.rests in
     let m = c.join_seat.ensures.2 in
-    (c.join_seat.ensures.0 ∙ (c.into_seat-place.ensures.0 ∙ c.requires.own.0), search rules, compares (λ w. w.journal) (λ w. w.tick) (λ w. g.B.Bucket.faults w.bucket) (λ w. g.B.Bucket.asked w.bucket) _ _ _ _ _ (ap (λ x. x.0.live) m ∙ (ap (λ v. v.live) is ∙ r.live)) (ap (λ x. x.0.holds) m ∙ (ap (λ v. v.holds) is ∙ r.rests)))
+    (c.join_seat.ensures.0 ∙ (c.into_seat-place.ensures.0 ∙ c.requires.own.0), search rules, compares (λ w. w.journal) (λ w. w.tick) (λ w. g.B.Bucket.told w.bucket) _ _ _ _ _ (ap (λ x. x.0.live) m ∙ (ap (λ v. v.live) is ∙ r.live)) (ap (λ x. x.0.holds) m ∙ (ap (λ v. v.holds) is ∙ r.rests)))

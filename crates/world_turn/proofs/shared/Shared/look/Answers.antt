@@ -7,4 +7,4 @@ pub load-count-requires : goal.load-count-requires
 load-count-requires g c =
     let is = sym (ap first_of c.into_seat-place.ensures.2) in
     let r = c.args.pass.rests in
-    (c.into_seat-place.ensures.0 ∙ c.requires.own, search rules, looks (λ w. w.journal) (λ w. w.tick) (λ w. g.B.Bucket.faults w.bucket) (λ w. g.B.Bucket.asked w.bucket) _ _ _ _ _ (ap (λ v. v.live) is ∙ r.live) (ap (λ v. v.holds) is ∙ r.rests))
+    (c.into_seat-place.ensures.0 ∙ c.requires.own, search rules, looks (λ w. w.journal) (λ w. w.tick) (λ w. g.B.Bucket.told w.bucket) _ _ _ _ _ (ap (λ v. v.live) is ∙ r.live) (ap (λ v. v.holds) is ∙ r.rests))

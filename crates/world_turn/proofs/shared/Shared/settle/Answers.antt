@@ -28,8 +28,8 @@ give-requires-clause-lies g c =
       h.0,
       ap (λ x. x.1) m ∙ h.1,
       j ∙ sym (ap (λ x. x.0.held) m),
-      subst (λ (v : View). ComesFrom g.B.Bucket.faults (opened_of v) h.0) (sym (ap (λ x. x.0) m)) h.3,
-      subst (λ (v : View). v.held_wanted ≡ false → AsksFrom g.B.Bucket.asked (opened_of v) h.0) (sym (ap (λ x. x.0) m)) (λ never. h.5 (λ e. cc (e, c.in-Done.is)) never),
+      subst (λ (v : View). ComesFrom g.B.Bucket.told (opened_of v) h.0) (sym (ap (λ x. x.0) m)) h.3,
+      subst (λ (v : View). v.held_wanted ≡ false → AsksFrom g.B.Bucket.told (opened_of v) h.0) (sym (ap (λ x. x.0) m)) (λ never. h.5 (λ e. cc (e, c.in-Done.is)) never),
     )
 
 pub give_full-requires-clause-lies : goal.give_full-requires-clause-lies

@@ -7,4 +7,4 @@ pub split_seat-new-requires : goal.split_seat-new-requires
 split_seat-new-requires g c =
     let is = sym (ap first_of c.into_seat-place.ensures.2) in
     let r = c.args.root.rests in
-    (c.into_seat-place.ensures.0 ∙ c.requires.own.0, search rules, splits (λ w. w.journal) (λ w. w.tick) (λ w. g.B.Bucket.faults w.bucket) (λ w. g.B.Bucket.asked w.bucket) _ _ _ (c.into_seat-place.ensures.1 ∙ r.first c.requires.own.1) (ap (λ v. v.live) is ∙ r.live) (ap (λ v. v.holds) is ∙ r.rests))
+    (c.into_seat-place.ensures.0 ∙ c.requires.own.0, search rules, splits (λ w. w.journal) (λ w. w.tick) (λ w. g.B.Bucket.told w.bucket) _ _ _ (c.into_seat-place.ensures.1 ∙ r.first c.requires.own.1) (ap (λ v. v.live) is ∙ r.live) (ap (λ v. v.holds) is ∙ r.rests))

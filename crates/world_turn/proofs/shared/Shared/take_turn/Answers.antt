@@ -5,7 +5,7 @@ use Rattle.world_turn.proofs.shared.Shared.take_turn.Goals as goal
 pub compare_exchange-requires : goal.compare_exchange-requires
 compare_exchange-requires g c =
     let i = c.loop.invariant in
-    (i.0 ∙ c.requires.own, search rules, takes_turn (λ w. w.journal) (λ w. w.tick) (λ w. g.B.Bucket.faults w.bucket) (λ w. g.B.Bucket.asked w.bucket) _ _ _ _ _ (ap (λ m. m.0.live) i.2 ∙ c.requires.rests.1))
+    (i.0 ∙ c.requires.own, search rules, takes_turn (λ w. w.journal) (λ w. w.tick) (λ w. g.B.Bucket.told w.bucket) _ _ _ _ _ (ap (λ m. m.0.live) i.2 ∙ c.requires.rests.1))
 
 pub lift-requires-clause-there : goal.lift-requires-clause-there
 lift-requires-clause-there g c =

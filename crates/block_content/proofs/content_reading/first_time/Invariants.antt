@@ -1,5 +1,0 @@
-use Rattle.block_content.proofs.Findings.{NoneOutside}
-use Rattle.block_content.proofs.content_reading.first_time.Given as goal
-
-abbrev pub invariant-loop-sample : goal.invariant-loop-sample
-invariant-loop-sample l = NoneOutside l.meta l.samples l.sample-index

@@ -1,5 +1,0 @@
-use Rattle.block_content.proofs.Findings.{FollowSoFar}
-use Rattle.block_content.proofs.content_reading.follow.Given as goal
-
-abbrev pub invariant-loop-chunk : goal.invariant-loop-chunk
-invariant-loop-chunk l = FollowSoFar l.chunks l.before l.chunk-index

@@ -1,0 +1,5 @@
+use Rattle.block_merging.proofs.Putting.{wanting}
+use Rattle.block_merging.proofs.series_merge.append_samples.Goals as goal
+
+pub only_memory-requires : goal.only_memory-requires
+only_memory-requires c = wanting c.in-Err.refusal _ (c.in-Err.ensures.only c.requires.0 c.requires.1)

@@ -1,6 +1,0 @@
-use Rattle.std.proofs.Common.{arith}
-use Rattle.index_v2.proofs.Spending.{no_entry}
-use Rattle.index_v2.proofs.budget.series_bytes.Goals as goal
-
-pub returns-then-at-index : goal.returns-then-at-index
-returns-then-at-index c = no_entry _ _ (omega arith)
