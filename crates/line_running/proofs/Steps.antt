@@ -1,6 +1,6 @@
 -- One task of a script: its parts, one after another, and what it came to.
-use Rattle.std.proofs.Common.{◌≡◌, ◌≢◌, ℕ, ℤ, zero, suc, ◌+◌, ◌<◌, ◌≤◌, Bool, true, false, List, [], ◌∷◌, ◌++◌, length, length-append, map, drop, refl, sym, ◌∙◌, ap, subst, inl, inr, arith, append_assoc}
-use Rattle.std.specs.Prelude.{◌==◌, Option, Some, None, option_map, slice_get, IfOk, IfSome, Result, Ok, Err}
+use Rattle.std.proofs.Common.{◌≡◌, ◌≢◌, ℕ, zero, suc, ◌+◌, ◌<◌, ◌≤◌, Bool, true, false, List, [], ◌∷◌, ◌++◌, length, length-append, map, drop, refl, sym, ◌∙◌, ap, subst, inl, inr, arith, append_assoc}
+use Rattle.std.specs.Prelude.{◌==◌, if◌then◌else◌, Option, Some, None, option_map, slice_get, IfOk, IfSome, Result, Ok, Err}
 use Rattle.std.specs.List.{All, AllZip, range_with_len}
 use Rattle.std.proofs.Math.ListN.{set}
 use Rattle.std.proofs.lemmas.List.Elements.{All-cons, All-nil, All-push}
@@ -14,12 +14,14 @@ use Rattle.world_core.specs.Operations.{entry_of}
 use Rattle.world_core.specs.declared.entry.Entry.{Entry}
 use Rattle.script_core.specs.Lawful.{IsLawfulScript, IsLawfulWork}
 use Rattle.script_core.specs.declared.script.Script.{Script}
-use Rattle.script_workers.specs.Hands.{gateway_count, gateway_of, hands_of_task}
+use Rattle.script_workers.specs.Hands.{gateway_count, gateway_of, hands_of_task, own_hand}
+use Rattle.script_workers.specs.Works.{asks_all}
 use Rattle.script_workers.specs.declared.hand.Hand.{Hand}
 use Rattle.script_workers.specs.declared.hand.Hand.TheVariants as hands
 use Rattle.script_workers.specs.declared.task.Task.{Task}
 use Rattle.script_workers.specs.declared.work.Work.{Work}
 use Rattle.script_workers.specs.declared.work.Work.TheVariants as works
+use Rattle.report_lines.specs.lifecycle_core.specs.Conducts.{Assigned}
 use Rattle.report_lines.specs.lifecycle_core.specs.Holdings.{Holding, Holdings, holding_of, nothing_held, with_holding}
 use Rattle.report_lines.specs.lifecycle_core.specs.InLine.{Duty, InLine, duties_from, who_does}
 use Rattle.report_lines.specs.lifecycle_core.specs.Setting.{Setting}
@@ -34,8 +36,20 @@ use Rattle.report_lines.specs.script_running.specs.declared.came.Broken.{Broken}
 use Rattle.report_lines.specs.script_running.specs.declared.came.Broken.TheVariants as broken
 use Rattle.report_lines.specs.script_running.specs.declared.sight.Sight.{Sight}
 use Rattle.report_lines.specs.script_running.proofs.TaskSteps.{when_done}
-use Rattle.line_running.specs.Progress.{IsDueInLine, IsWhole, PartStep, TaskStep, duties_at}
+use Rattle.line_running.specs.Progress.{IsDueInLine, IsWhole, Line, PartStep, TaskStep, duties_at}
 use Rattle.report_lines.specs.script_running.specs.Beside.{AreSeen}
+
+-- in line by this setting, from these seats
+abbrev pub line : Setting → (Hand → ℕ) → Line
+line setting seat = record { setting = setting; seat = seat }
+
+-- the task at a place
+abbrev pub one_of : ℕ → Task → Assigned
+one_of place task = record { place = place; task = task }
+
+-- what a hand of a task has to do
+abbrev pub duty_of : ℕ → Task → Hand → Duty
+duty_of place task hand = record { place = place; hand = hand; task = task }
 
 -- ---- one part
 
@@ -45,7 +59,7 @@ done_by (Err why) P Q f holds = tt
 
 -- a worker's part that it did from its seat
 pub part_step : (setting : Setting) (seat : Hand → ℕ) (own : ℕ) (place : ℕ) (task : Task) (hand : Hand) (views : Holdings) (gateways : List Sight) (old new : List Entry) (sight : Sight) (came : Result Part Broken) → own ≡ seat hand
-    → (d : HasDone setting (who_does seat hand) place task.work (holding_of views (gateway_of hand)) own old new sight came) → WhenDone came (AreSeen (with_holding views (gateway_of hand) d.after) gateways) → PartStep setting seat place task hand views gateways old new came
+    → (d : HasDone setting (who_does seat hand) place task.work (holding_of views (gateway_of hand)) own old new sight came) → WhenDone came (AreSeen (with_holding views (gateway_of hand) d.after) gateways) → PartStep (line setting seat) (duty_of place task hand) views gateways old new came
 part_step setting seat own place task hand views gateways old new sight came same d shows = record {
   made = d.made;
   entries = d.entries;
@@ -59,9 +73,9 @@ part_step setting seat own place task hand views gateways old new sight came sam
 }
 
 pub alone_step : (setting : Setting) (seat : Hand → ℕ) (own : ℕ) (place number : ℕ) (task : Task) (hand : Hand) (views : Holdings) (gateways : List Sight) (old new : List Entry) (sight : Sight) (came : Result Part Broken) → hand ≡ hands.Alone number → own ≡ seat hand
-    → HasDone setting (who_does seat (hands.Alone number)) place task.work nothing_held own old new sight came → AreSeen views gateways → PartStep setting seat place task hand views gateways old new came
+    → HasDone setting (who_does seat (hands.Alone number)) place task.work nothing_held own old new sight came → AreSeen views gateways → PartStep (line setting seat) (duty_of place task hand) views gateways old new came
 alone_step setting seat own place number task hand views gateways old new sight came is same d shows =
-    subst (λ (h : Hand). PartStep setting seat place task h views gateways old new came) (sym is)
+    subst (λ (h : Hand). PartStep (line setting seat) (duty_of place task h) views gateways old new came) (sym is)
     (part_step setting seat own place task (hands.Alone number) views gateways old new sight came (same ∙ ap seat is) d (when_done came (AreSeen views gateways) shows))
 
 -- ---- a gateway's task
@@ -88,10 +102,10 @@ set_shows views number held gateways gateway shows is = λ place x at. shows_at 
 pub gateway_step : (setting : Setting) (seat : Hand → ℕ) (own : ℕ) (place : ℕ) (task : Task) (hand : Hand) (views : Holdings) (gateways : List Sight) (old new : List Entry) (came : Result Part Broken) (number : ℕ) (before gateway : Sight) → hand ≡ hands.Gateway number
     → own ≡ seat hand → slice_get gateways number ≡ Some before
     → ((held : Holding) → Sees held before → HasDone setting (who_does seat (hands.Gateway number)) place task.work held own old new gateway came)
-    → AreSeen views gateways → PartStep setting seat place task hand views (set gateways number gateway) old new came
+    → AreSeen views gateways → PartStep (line setting seat) (duty_of place task hand) views (set gateways number gateway) old new came
 gateway_step setting seat own place task hand views gateways old new came number before gateway is same at done shows =
     let d = done (views number) (shows number before at) in
-    subst (λ (h : Hand). PartStep setting seat place task h views (set gateways number gateway) old new came) (sym is)
+    subst (λ (h : Hand). PartStep (line setting seat) (duty_of place task h) views (set gateways number gateway) old new came) (sym is)
     (part_step setting seat own place task (hands.Gateway number) views (set gateways number gateway) old new gateway came (same ∙ ap seat is) d
     (done_by came (Sees d.after gateway) (AreSeen (with_holding views (Some number) d.after) (set gateways number gateway)) (set_shows views number d.after gateways gateway shows) d.sees))
 
@@ -119,26 +133,14 @@ hand_within gateways place number (works.Query low high selector) hand at within
     asked_within all first (suc count) (suc number) hand at few = asked_within all (first + 1) count number hand at (omega (arith, few))
 
 -- so many do a task
-pub count_of_upload : (gateways place ulid : ℕ) (stop : Option ℕ) (w : Work) → w ≡ works.Upload ulid stop → ◌≡◌ {A = ℕ} 1 (length (hands_of_task gateways place w))
+pub count_all : (gateways place : ℕ) (w : Work) → asks_all w ≡ true → gateways ≡ length (hands_of_task gateways place w)
 unfolding hands_of_task
-count_of_upload gateways place ulid stop w is = ap (λ (x : Work). length (hands_of_task gateways place x)) (sym is)
+count_all gateways place w all =
+    subst (λ (b : Bool). gateways ≡ length (if b then map hands.Gateway (range_with_len 0 gateways) else own_hand place w ∷ [])) (sym all) (sym (length-map-range_with_len hands.Gateway 0 gateways))
 
-pub count_of_compaction : (gateways place : ℕ) (stop : Option ℕ) (w : Work) → w ≡ works.Compact stop → ◌≡◌ {A = ℕ} 1 (length (hands_of_task gateways place w))
+pub count_one : (gateways place : ℕ) (w : Work) → asks_all w ≡ false → ◌≡◌ {A = ℕ} 1 (length (hands_of_task gateways place w))
 unfolding hands_of_task
-count_of_compaction gateways place stop w is = ap (λ (x : Work). length (hands_of_task gateways place x)) (sym is)
-
-pub count_of_cleaning : (gateways place : ℕ) (stop : Option ℕ) (w : Work) → w ≡ works.Clean stop → ◌≡◌ {A = ℕ} 1 (length (hands_of_task gateways place w))
-unfolding hands_of_task
-count_of_cleaning gateways place stop w is = ap (λ (x : Work). length (hands_of_task gateways place x)) (sym is)
-
-pub count_of_sync : (gateways place gateway : ℕ) (w : Work) → w ≡ works.Sync gateway → ◌≡◌ {A = ℕ} 1 (length (hands_of_task gateways place w))
-unfolding hands_of_task
-count_of_sync gateways place gateway w is = ap (λ (x : Work). length (hands_of_task gateways place x)) (sym is)
-
-pub count_of_query : (gateways place : ℕ) (low high : ℤ) (selector : ℕ) (w : Work) → w ≡ works.Query low high selector → gateways ≡ length (hands_of_task gateways place w)
-unfolding hands_of_task
-count_of_query gateways place low high selector w is =
-    sym (length-map-range_with_len hands.Gateway 0 gateways) ∙ ap (λ (x : Work). length (hands_of_task gateways place x)) (sym is)
+count_one gateways place w one = subst (λ (b : Bool). ◌≡◌ {A = ℕ} 1 (length (if b then map hands.Gateway (range_with_len 0 gateways) else own_hand place w ∷ []))) (sym one) refl
 
 -- and this is the hand of a number
 the_only : (hand : Hand) (number : ℕ) → number < 1 → slice_get (hand ∷ []) number ≡ Some hand
@@ -151,31 +153,17 @@ the_gateway first (suc count) zero less = let same : first ≡ first + 0 = omega
 the_gateway first (suc count) (suc number) less =
     let same : first + 1 + number ≡ first + suc number = omega arith in the_gateway (first + 1) count number (omega (arith, less)) ∙ ap (λ (n : ℕ). Some (hands.Gateway n)) same
 
-pub hand_of_upload : (gateways place number ulid : ℕ) (stop : Option ℕ) (w : Work) → w ≡ works.Upload ulid stop → number < length (hands_of_task gateways place w) → slice_get (hands_of_task gateways place w) number ≡ Some (hands.Alone place)
+pub hand_all : (gateways place number : ℕ) (w : Work) → asks_all w ≡ true → number < length (hands_of_task gateways place w) → slice_get (hands_of_task gateways place w) number ≡ Some (hands.Gateway number)
 unfolding hands_of_task
-hand_of_upload gateways place number ulid stop w is =
-    subst (λ (x : Work). number < length (hands_of_task gateways place x) → slice_get (hands_of_task gateways place x) number ≡ Some (hands.Alone place)) (sym is) (λ less. the_only (hands.Alone place) number less)
-
-pub hand_of_compaction : (gateways place number : ℕ) (stop : Option ℕ) (w : Work) → w ≡ works.Compact stop → number < length (hands_of_task gateways place w) → slice_get (hands_of_task gateways place w) number ≡ Some (hands.Alone place)
-unfolding hands_of_task
-hand_of_compaction gateways place number stop w is =
-    subst (λ (x : Work). number < length (hands_of_task gateways place x) → slice_get (hands_of_task gateways place x) number ≡ Some (hands.Alone place)) (sym is) (λ less. the_only (hands.Alone place) number less)
-
-pub hand_of_cleaning : (gateways place number : ℕ) (stop : Option ℕ) (w : Work) → w ≡ works.Clean stop → number < length (hands_of_task gateways place w) → slice_get (hands_of_task gateways place w) number ≡ Some (hands.Alone place)
-unfolding hands_of_task
-hand_of_cleaning gateways place number stop w is =
-    subst (λ (x : Work). number < length (hands_of_task gateways place x) → slice_get (hands_of_task gateways place x) number ≡ Some (hands.Alone place)) (sym is) (λ less. the_only (hands.Alone place) number less)
-
-pub hand_of_sync : (gateways place number gateway : ℕ) (w : Work) → w ≡ works.Sync gateway → number < length (hands_of_task gateways place w) → slice_get (hands_of_task gateways place w) number ≡ Some (hands.Gateway gateway)
-unfolding hands_of_task
-hand_of_sync gateways place number gateway w is =
-    subst (λ (x : Work). number < length (hands_of_task gateways place x) → slice_get (hands_of_task gateways place x) number ≡ Some (hands.Gateway gateway)) (sym is) (λ less. the_only (hands.Gateway gateway) number less)
-
-pub hand_of_query : (gateways place number : ℕ) (low high : ℤ) (selector : ℕ) (w : Work) → w ≡ works.Query low high selector → number < length (hands_of_task gateways place w) → slice_get (hands_of_task gateways place w) number ≡ Some (hands.Gateway number)
-unfolding hands_of_task
-hand_of_query gateways place number low high selector w is =
-    subst (λ (x : Work). number < length (hands_of_task gateways place x) → slice_get (hands_of_task gateways place x) number ≡ Some (hands.Gateway number)) (sym is)
+hand_all gateways place number w all =
+    subst (λ (b : Bool). number < length (if b then map hands.Gateway (range_with_len 0 gateways) else own_hand place w ∷ []) → slice_get (if b then map hands.Gateway (range_with_len 0 gateways) else own_hand place w ∷ []) number ≡ Some (hands.Gateway number)) (sym all)
     (λ less. let long = length-map-range_with_len hands.Gateway 0 gateways in let same : 0 + number ≡ number = omega arith in the_gateway 0 gateways number (omega (arith, less, long)) ∙ ap (λ (n : ℕ). Some (hands.Gateway n)) same)
+
+pub hand_one : (gateways place number : ℕ) (w : Work) → asks_all w ≡ false → number < length (hands_of_task gateways place w) → slice_get (hands_of_task gateways place w) number ≡ Some (own_hand place w)
+unfolding hands_of_task
+hand_one gateways place number w one =
+    subst (λ (b : Bool). number < length (if b then map hands.Gateway (range_with_len 0 gateways) else own_hand place w ∷ []) → slice_get (if b then map hands.Gateway (range_with_len 0 gateways) else own_hand place w ∷ []) number ≡ Some (own_hand place w)) (sym one)
+    (λ less. the_only (own_hand place w) number less)
 
 -- as many as were counted do the task
 pub counted : (script : Script) → IsLawfulScript script → (w : Work) (place : ℕ) (gateways : List Sight) (number count : ℕ) → length gateways ≡ length script.gateways → number ≡ length gateways → count ≡ length (hands_of_task number place w) → count ≡ length (hands_of_task (gateway_count script.gateways) place w)
@@ -199,10 +187,6 @@ gateway_inside hand number gateways is within = subst (λ (h : Hand). IfSome (ga
 pub gathered_is : (w : Work) (parts : List Part) (o : Result Outcome Broken) → IfOk o (IsOutcomeOf w parts) → (outcome : Outcome) → o ≡ Ok outcome → IsOutcomeOf w parts outcome
 gathered_is w parts (Ok own) holds outcome is = let same : own ≡ outcome = cc (is) in subst (IsOutcomeOf w parts) same holds
 gathered_is w parts (Err why) holds outcome is = absurd (cc (is))
-
--- what a hand of a task has to do
-abbrev duty_of : ℕ → Task → Hand → Duty
-duty_of place task hand = record { place = place; hand = hand; task = task }
 
 -- its duty is that of the number
 pub duty_at : (setting : Setting) (place number : ℕ) (task : Task) (hand : Hand) → slice_get (hands_of_task (gateway_count setting.script.gateways) place task.work) number ≡ Some hand
@@ -266,13 +250,13 @@ module _ (setting : Setting) (seat : Hand → ℕ) (place : ℕ) (task : Task) (
   })
 
   both : (one two : List Entry) (old mid new : List Entry) → mid ≡ old ++ one → new ≡ mid ++ two → new ≡ old ++ (one ++ two)
-  both one two old mid new first then = then ∙ ap (λ (l : List Entry). l ++ two) first ∙ append_assoc old one two
+  both one two old mid new first later = later ∙ ap (λ (l : List Entry). l ++ two) first ∙ append_assoc old one two
 
   module _ (number : ℕ) (hand : Hand) (shown gateways : List Sight) (old mid new : List Entry) (parts : List Part) (f : Front number shown old mid parts) (at : slice_get duties number ≡ Some (own_duty hand)) where
     next : drop number duties ≡ own_duty hand ∷ drop (number + 1) duties
     next = drop_place duties number (own_duty hand) at
 
-    one_more : (one : Part) (p : PartStep setting seat place task hand f.after gateways mid new (Ok one)) (end : Option End) → p.end ≡ end → CameBy task.work end (Ok one) → Front (number + 1) gateways old new (parts ++ one ∷ [])
+    one_more : (one : Part) (p : PartStep (line setting seat) (duty_of place task hand) f.after gateways mid new (Ok one)) (end : Option End) → p.end ≡ end → CameBy task.work end (Ok one) → Front (number + 1) gateways old new (parts ++ one ∷ [])
     one_more one p None is by = absurd by
     one_more one p (Some end) is by = record {
       made = f.made ++ p.made;
@@ -290,9 +274,9 @@ module _ (setting : Setting) (seat : Hand → ℕ) (place : ℕ) (task : Task) (
       all = AllZip-push (IsPart task.work) f.ends parts end one f.all by;
     }
 
-    pub part_more : (came : Result Part Broken) (one : Part) (made : List Part) → came ≡ Ok one → made ≡ parts ++ one ∷ [] → PartStep setting seat place task hand f.after gateways mid new came → Front (number + 1) gateways old new made
+    pub part_more : (came : Result Part Broken) (one : Part) (made : List Part) → came ≡ Ok one → made ≡ parts ++ one ∷ [] → PartStep (line setting seat) (duty_of place task hand) f.after gateways mid new came → Front (number + 1) gateways old new made
     part_more came one made ok is p =
-        let q = subst (λ (c : Result Part Broken). PartStep setting seat place task hand f.after gateways mid new c) ok p in
+        let q = subst (λ (c : Result Part Broken). PartStep (line setting seat) (duty_of place task hand) f.after gateways mid new c) ok p in
         subst (λ (l : List Part). Front (number + 1) gateways old new l) (sym is) (one_more one q q.end refl q.by)
 
     -- what an operation of the part leads to
@@ -316,9 +300,9 @@ module _ (setting : Setting) (seat : Hand → ℕ) (place : ℕ) (task : Task) (
     none_by (Some end) broken.Full by = absurd by
     none_by (Some end) broken.NoMemory by = absurd by
 
-    pub part_broken : (begin : MayAllBegin setting duties) (came : Result Part Broken) (why : Broken) → came ≡ Err why → PartStep setting seat place task hand f.after gateways mid new came → TaskStep setting seat place task views gateways old new (Err why)
+    pub part_broken : (begin : MayAllBegin setting duties) (came : Result Part Broken) (why : Broken) → came ≡ Err why → PartStep (line setting seat) (duty_of place task hand) f.after gateways mid new came → TaskStep (line setting seat) (one_of place task) views gateways old new (Err why)
     part_broken begin came why is p =
-        let q = subst (λ (c : Result Part Broken). PartStep setting seat place task hand f.after gateways mid new c) is p in
+        let q = subst (λ (c : Result Part Broken). PartStep (line setting seat) (duty_of place task hand) f.after gateways mid new c) is p in
         let last = with_holding f.after (gateway_of hand) q.after in
         let within : number < length duties = slice_get_within duties number (own_duty hand) at in
         record {
@@ -336,7 +320,7 @@ module _ (setting : Setting) (seat : Hand → ℕ) (place : ℕ) (task : Task) (
         cut broken.Full less = less
         cut broken.NoMemory less = tt
 
-        broke : (why : Broken) (q : PartStep setting seat place task hand f.after gateways mid new (Err why)) → WhenFull {X = Outcome} (Err why) (IsDueInLine setting seat views duties (f.made ++ q.made))
+        broke : (why : Broken) (q : PartStep (line setting seat) (duty_of place task hand) f.after gateways mid new (Err why)) → WhenFull {X = Outcome} (Err why) (IsDueInLine setting seat views duties (f.made ++ q.made))
         broke broken.NoMemory q = tt
         broke broken.Full q = (
           seat hand,
@@ -353,7 +337,7 @@ module _ (setting : Setting) (seat : Hand → ℕ) (place : ℕ) (task : Task) (
 
   -- all parts were done, and what they came to was gathered, or memory was wanting for that
   pub all_done : (number : ℕ) (gateways : List Sight) (old new : List Entry) (parts : List Part) (o : Result Outcome Broken) → Front number gateways old new parts → number ≡ length duties → o ≢ Err broken.Full
-      → ((outcome : Outcome) → o ≡ Ok outcome → IsOutcomeOf task.work parts outcome) → TaskStep setting seat place task views gateways old new o
+      → ((outcome : Outcome) → o ≡ Ok outcome → IsOutcomeOf task.work parts outcome) → TaskStep (line setting seat) (one_of place task) views gateways old new o
   all_done number gateways old new parts o f all why is = record {
     made = f.made;
     entries = f.entries;
@@ -377,7 +361,7 @@ module _ (setting : Setting) (seat : Hand → ℕ) (place : ℕ) (task : Task) (
       none_due (Err broken.NoMemory) why = tt
 
   -- memory was wanting before the first part
-  pub none_begun : (gateways : List Sight) (journal : List Entry) → MayAllBegin setting duties → TaskStep setting seat place task views gateways journal journal (Err broken.NoMemory)
+  pub none_begun : (gateways : List Sight) (journal : List Entry) → MayAllBegin setting duties → TaskStep (line setting seat) (one_of place task) views gateways journal journal (Err broken.NoMemory)
   none_begun gateways journal begin = record {
     made = [];
     entries = sym (append-nil journal);
