@@ -26,7 +26,7 @@ use Rattle.xor_chunks.specs.Grammar.{IsText}
 use Rattle.block_meta.specs.Lawful.{AreLawfulTimes}
 use Rattle.xor_chunks.specs.Written.{written, IsChunkTime, AreOfChunk}
 use Rattle.block_writing.specs.Put.{PlanFields, PutChunk, PutSeries, Put, IsStored, IsAfterChunks, fitted, with_chunk, with_series}
-use Rattle.block_writing.specs.Built.{IsPart, IsEncoded, AreOfBlock, BeginAfter, HasMore, HasParts, StandsFor}
+use Rattle.block_writing.specs.Built.{IsPart, IsEncoded, AreOfBlock, BeginAfter, HasFront, HasMore, HasParts, StandsFor}
 use Rattle.block_writing.proofs.Runs.{order_more}
 use Rattle.block_writing.proofs.Lists.{pushed_parts, all_left}
 use Rattle.block_writing.proofs.PutLaws.{behind_last}
@@ -218,6 +218,21 @@ all_parts begin samples left now are h none =
             subst (λ (l : List PutChunk). IsAfterChunks l time) (sym split) (behind_last (begin.chunks ++ front) last time before)
       ];
     }
+
+-- what was put before memory ran out
+pub front_put : (begin : Put) (samples left : List Sample) (now new : Put) → SoFar begin samples left now → new ≡ now → HasFront begin samples new
+front_put begin samples left now new h same = subst (HasFront begin samples) (sym same) (record {
+  parts = h.parts;
+  left = left;
+  whole = h.whole;
+  cut = h.cut;
+  made = h.made;
+  chunks = h.chunks;
+  plan_is = h.plan_is;
+  series_are = h.series_is;
+  chunks_are = h.chunks_are;
+  samples_are = h.samples_is;
+})
 
 -- ---- a series of its own
 
