@@ -1,5 +1,5 @@
 -- Loading a block: what the functions give is what the relations say.
-use Rattle.std.proofs.Common.{◌≡◌, ℕ, List, length, Ok, Err, refl, sym, ap, subst, ◌∙◌, arith, inl, inr}
+use Rattle.std.proofs.Common.{◌≡◌, ℕ, ◌+◌, List, length, Ok, Err, refl, sym, ap, subst, ◌∙◌, arith, inl, inr}
 use Rattle.std.specs.Prelude.{◌≢◌}
 use Rattle.base.specs.Reading.{refused_as}
 use Rattle.base.proofs.Binds.{bind_ok, bind_err, ok_is, refused_as_ok, refused_as_err}

@@ -78,6 +78,13 @@ module _ (told : Contents) (key : Key) (before : ℕ) where
   pub segment_over : IsOver told key before → segment_at told key before ≡ Err (Refused (TooLarge key))
   segment_over is = segment_is is.bytes (file_again told key is.bytes is.file) ∙ ap (λ (b : Bool). cond b (Err (Refused (TooLarge key))) (Ok is.bytes)) (passes_again before is.bytes is.much)
 
+  -- what the code tests of what it read
+  pub segment_fits : (segment lent : List ℕ) (bytes : ℕ) → file_at told key ≡ Ok segment → lent ≡ segment → bytes ≡ before + length lent → bytes ≤ load_limit → segment_at told key before ≡ Ok segment
+  segment_fits segment lent bytes read lends counted le = segment_again segment (file_found told key segment read) (omega (arith, le, counted, ap length lends))
+
+  pub segment_passes : (segment lent : List ℕ) (bytes : ℕ) → file_at told key ≡ Ok segment → lent ≡ segment → bytes ≡ before + length lent → load_limit < bytes → segment_at told key before ≡ Err (Refused (TooLarge key))
+  segment_passes segment lent bytes read lends counted lt = segment_over (record { bytes = segment; file = file_found told key segment read; much = omega (arith, lt, counted, ap length lends) })
+
   pub segment_refused : (e : LoadRefusal) → segment_at told key before ≡ Err e → (file_at told key ≡ Err e) ⊎ (IsOver told key before × (e ≡ Refused (TooLarge key)))
   unfolding segment_at
   segment_refused e h =

@@ -183,7 +183,8 @@ fn read_segment<F: Shelf>(
     ensures kept { KeepsShelf F.told shelf.old shelf.new (was_fault result) }
 {
     let segment = read_file(alloc, shelf, key)?;
-    if before + segment.bytes().len() as u64 > LOAD_LIMIT {
+    let bytes = before + segment.bytes().len() as u64;
+    if bytes > LOAD_LIMIT {
         return Err(LoadRefusal::Refused(CheckRefusal::TooLarge(*key)));
     }
     Ok(segment)

@@ -1,6 +1,6 @@
 -- Samples that are put part by part.
 use Rattle.std.proofs.Common.{◌≡◌, ℕ, zero, suc, ◌+◌, ◌-◌, ◌<◌, ◌≤◌, List, [], ◌∷◌, ◌++◌, length, Less, get_or, take, drop, None, Some, refl, sym, ap, subst, ◌∙◌, append-nil, append_assoc, length-append, take-append-drop, arith, inl, inr, ℤ, pos, negsuc, to_z, of_z}
-use Rattle.std.specs.Prelude.{slice_get, min, ◌^◌, ◌<ℤ◌, ◌≤ℤ◌, neg_ℤ, Contains, OnOk, Result, Ok, Err, FitsSigned}
+use Rattle.std.specs.Prelude.{slice_get, min, ◌^◌, ◌<ℤ◌, ◌≤ℤ◌, neg_ℤ, Contains, OnErr, OnOk, Result, Ok, Err, FitsSigned}
 use Rattle.std.specs.Int.{w64}
 use Rattle.std.proofs.lemmas.Int.{ints, to_z-of_z}
 use Rattle.std.specs.Ordering.{int_cmp}
@@ -220,8 +220,9 @@ all_parts begin samples left now are h none =
     }
 
 -- what was put before memory ran out
-pub front_put : (begin : Put) (samples left : List Sample) (now new : Put) → SoFar begin samples left now → new ≡ now → HasFront begin samples new
-front_put begin samples left now new h same = subst (HasFront begin samples) (sym same) (record {
+pub front_put : {T E : Type 0} (r : Result T E) (begin : Put) (samples left : List Sample) (now new : Put) → SoFar begin samples left now → new ≡ now → OnErr r (HasFront begin samples new)
+front_put (Ok t) begin samples left now new h same = tt
+front_put (Err e) begin samples left now new h same = subst (HasFront begin samples) (sym same) (record {
   parts = h.parts;
   left = left;
   whole = h.whole;

@@ -13,7 +13,7 @@ returns-then-not-few c = inr (read_much c.args.meta.now c.args.index.now c.args.
     (reads_told c.args.segments.now c.args.indexed.now c.args.bytes c.in_ok-few.few c.requires c.in_ok-few.ensures ∙ c.if-not-few.true))
 
 pub returns-in_err-counts : goal.returns-in_err-counts
-returns-in_err-counts c = count_stops (some_at c.args.meta.now c.args.index.now c.args.segments.now c.args.indexed.now) c.from_residual.result c.in_err-counts.field-0.0 c.from_residual.ensures.1
+returns-in_err-counts c = count_stops (some_at c.args.meta.now c.args.index.now c.args.segments.now c.args.indexed.now) c.from_residual-in_err-counts.result c.in_err-counts.field-0.0 c.from_residual-in_err-counts.ensures.1
     (counts_refused c.args.meta.now c.args.index.now c.args.segments.now c.args.indexed.now (some_members c.args.indexed.now c.is_empty.result c.is_empty.ensures c.if-is_empty.false)
     (reads_told c.args.segments.now c.args.indexed.now c.args.bytes c.in_ok-few.few c.requires c.in_ok-few.ensures ∙ c.if-not-few.false) c.in_err-counts.field-0.0 c.in_err-counts.ensures.read)
 

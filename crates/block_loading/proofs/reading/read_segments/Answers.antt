@@ -1,5 +1,6 @@
 use Rattle.std.proofs.Common.{ℕ, List, [], ◌∷◌, length, ◌+◌, ◌-◌, ap, sym, subst, ◌∙◌, false, refl, arith}
 use Rattle.std.proofs.lemmas.List.{length-append}
+use Rattle.std.proofs.lemmas.List.Sums.{sum_by_push}
 use Rattle.block_keys.specs.declared.key.Key.TheVariants.{Segment}
 use Rattle.block_loading.specs.Loading.{HasSegments}
 use Rattle.block_loading.specs.LoadReading.{segment_at, segments_at}
@@ -20,12 +21,12 @@ returns-in_err-segment-clause-read g c = λ told h. stops (λ segments. segments
 pub loop-number-preserved : goal.loop-number-preserved
 loop-number-preserved g c = record {
   many = let before = c.loop-number.invariant.many in omega (arith, before, ap length c.in_ok-push.ensures.ok, length-append c.loop-number.segments (c.in_ok-segment.segment ∷ []));
-  read = λ told h. read_step told c.args.ulid c.args.last c.loop-number.number c.loop-number.bytes _ c.loop-number.segments c.in_ok-segment.segment (c.loop-number.invariant.read told h) c.loop-number-test.true (c.in_ok-segment.ensures.read told (c.loop-number.invariant.kept.same ∙ h)) (ap (λ (b : List ℕ). c.loop-number.bytes + length b) c.bytes.ensures)
-      ∙ ap (λ xs. with_front xs (segments_at told c.args.ulid ((c.loop-number.number + 1) + 1) _ (c.args.last - (c.loop-number.number + 1)))) (sym c.in_ok-push.ensures.ok);
+  read = λ told h. read_step told c.args.ulid c.args.last c.loop-number.number c.loop-number.bytes (c.loop-number.bytes + length c.bytes.result.now) c.loop-number.segments c.in_ok-segment.segment (c.loop-number.invariant.read told h) c.loop-number-test.true (c.in_ok-segment.ensures.read told (c.loop-number.invariant.kept.same ∙ h)) (ap (λ (b : List ℕ). c.loop-number.bytes + length b) c.bytes.ensures)
+      ∙ ap (λ xs. with_front xs (segments_at told c.args.ulid ((c.loop-number.number + 1) + 1) (c.loop-number.bytes + length c.bytes.result.now) (c.args.last - (c.loop-number.number + 1)))) (sym c.in_ok-push.ensures.ok);
   asked = asked_one g.F.Shelf.told c.args.ulid c.args.shelf.now c.loop-number.shelf c.read_segment.new.shelf c.loop-number.number c.loop-number.invariant.asked (file_asked g.F.Shelf.told _ _ _ c.in_ok-segment.segment c.in_ok-segment.ensures.asks);
   stood = λ told h. subst (HasSegments told c.args.ulid) (sym c.in_ok-push.ensures.ok) (stand_more told c.args.ulid c.loop-number.segments c.loop-number.number c.loop-number.bytes c.in_ok-segment.segment (c.loop-number.invariant.stood told h) c.loop-number.invariant.many c.loop-number.invariant.counted (c.in_ok-segment.ensures.read told (c.loop-number.invariant.kept.same ∙ h)));
-  counted = ?;
-  together = ?;
+  counted = omega (arith, c.loop-number.invariant.counted, ap length c.bytes.ensures, ap size_of c.in_ok-push.ensures.ok, sum_by_push length c.loop-number.segments c.in_ok-segment.segment);
+  together = omega (arith, c.in_ok-segment.ensures.together, ap length c.bytes.ensures);
   sized = one_more c.loop-number.segments _ c.in_ok-segment.segment c.in_ok-push.ensures.ok c.loop-number.invariant.sized c.in_ok-segment.ensures.within;
   kept = kept_then g.F.Shelf.told c.args.shelf.now c.loop-number.shelf c.read_segment.new.shelf false c.loop-number.invariant.kept c.in_ok-segment.ensures.kept;
 }

@@ -3,7 +3,7 @@ use Rattle.std.specs.Prelude.{min}
 use Rattle.std.specs.List.{AllByRecursion}
 use Rattle.label_sets.specs.Times.{IsWithin}
 use Rattle.xor_chunks.specs.Written.{AreOfChunk}
-use Rattle.block_writing.proofs.Parts.{none_yet, of_chunk, part_within, part_more, all_parts}
+use Rattle.block_writing.proofs.Parts.{none_yet, of_chunk, part_within, part_more, all_parts, front_put}
 use Rattle.block_writing.proofs.builder.put_parts.Goals as goal
 
 pub loop-left-init : goal.loop-left-init
@@ -31,4 +31,4 @@ returns-clause-ok c =
     all_parts c.args.writer.now c.args.samples.now c.loop-left.left.now c.loop-left.writer c.requires.samples c.loop-left.invariant none
 
 pub returns-in_err-put_part-clause-err : goal.returns-in_err-put_part-clause-err
-returns-in_err-put_part-clause-err c = ?
+returns-in_err-put_part-clause-err c = front_put c.from_residual.result c.args.writer.now c.args.samples.now c.loop-left.left.now c.loop-left.writer c.put_part.new.writer c.loop-left.invariant c.in_err-put_part.ensures.err
