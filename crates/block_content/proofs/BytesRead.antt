@@ -22,7 +22,7 @@ use Rattle.index_parts.specs.declared.chunk_place.ChunkPlace.{ChunkPlace}
 use Rattle.index_parts.specs.declared.index_series.IndexSeries.{IndexSeries}
 use Rattle.index_parts.specs.IndexFile.{IsIndex}
 use Rattle.block_meta.specs.declared.block_files.BlockFiles.{BlockFiles}
-use Rattle.block_content.specs.Content.{StandsAt, IsChunkOf, HoldsSeries, IsContent}
+use Rattle.block_content.specs.Content.{IsChunkOf, HoldsSeries, IsContent}
 use Rattle.block_content.specs.ContentReading.{index_at, bytes_in, chunk_bytes, series_bytes}
 use Rattle.block_content.specs.Named.{counted, NamesFew}
 use Rattle.block_content.specs.StoredPlaces.{place_number, places_of}

@@ -97,6 +97,9 @@ module _ (told : Contents) (key : Key) (before : ℕ) where
             ]
       ]
 
+no_more : (n : ℕ) → n + 0 ≡ n
+no_more n = omega arith
+
 -- how many bytes these have together
 abbrev pub size_of : List (List ℕ) → ℕ
 size_of segments = sum_by length segments
@@ -194,9 +197,7 @@ module _ (told : Contents) (ulid : ℕ) where
   from_refused number before (suc count) e le h =
       elim (bind_err _ _ _ h) [
         | inl refused ↦
-            let here : number + 0 ≡ number = omega arith in
-            let none : before + 0 ≡ before = omega arith in
-            ([], has_none number before le, omega arith, ap₂ (λ (n b : ℕ). segment_at told (Segment ulid n) b) here none ∙ refused)
+            ([], has_none number before le, omega arith, ap₂ (λ (n b : ℕ). segment_at told (Segment ulid n) b) (no_more number) (no_more before) ∙ refused)
         | inr (one, read, behind) ↦
             elim (bind_err _ _ _ behind) [
               | inl refused ↦
