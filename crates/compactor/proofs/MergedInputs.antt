@@ -1,13 +1,15 @@
 -- What becomes of blocks that were read.
-use Rattle.std.proofs.Common.{◌≡◌, ◌≤◌, ℕ, suc, List, [], ◌∷◌, map, length, refl, sym, ap, ◌∙◌, arith}
-use Rattle.std.specs.List.{AllZip}
+use Rattle.std.proofs.Common.{◌≡◌, ◌≤◌, ℕ, suc, List, [], ◌∷◌, map, length, Some, refl, sym, ap, subst, ◌∙◌, arith}
+use Rattle.std.specs.List.{AllByRecursion, AllZip}
 use Rattle.label_sets.specs.declared.label.Label.{Label}
 use Rattle.block_meta.specs.declared.block_plan.BlockPlan.{BlockPlan}
 use Rattle.block_meta.specs.declared.block_files.BlockFiles.{BlockFiles}
 use Rattle.vertical_merge.specs.Compacted.{IsCompactedPlan}
 use Rattle.std.proofs.lemmas.List.{length-map}
-use Rattle.compactor.specs.Inputs.{IsInput}
-use Rattle.compactor.specs.InputFiles.{numbers_of, AreFiles}
+use Rattle.compactor.specs.Inputs.{IsInput, HasNamed}
+use Rattle.compactor.specs.InputFiles.{numbers_of, AreFiles, AreNamed}
+use Rattle.compactor.specs.Named.{named_segments}
+use Rattle.compactor.specs.declared.input.Read.{Read}
 use Rattle.compactor.specs.declared.input_files.Numbers.{Numbers}
 use Rattle.block_writing.specs.WrittenMeta.{meta_with}
 use Rattle.block_meta.specs.MetaFields.{MetaFields}
@@ -24,8 +26,16 @@ same_count (i ∷ inputs) (b ∷ bs) are = ap (λ n. suc n) (same_count inputs b
 pub blocks_many : (inputs : List Input) (blocks : List BlockFiles) → AllZip IsInput inputs blocks → 2 ≤ length inputs → 2 ≤ length blocks
 blocks_many inputs blocks are many = omega (arith, many, same_count inputs blocks are)
 
-pub numbers_many : (inputs : List Input) (blocks : List BlockFiles) (numbers : List Numbers) → AreFiles inputs blocks numbers → length numbers ≡ length blocks
-numbers_many inputs blocks numbers are = ap length are.numbers_are ∙ length-map inputs numbers_of ∙ sym (same_count inputs blocks are.read)
+-- of each block just the segments were read that its index names
+each_named : (inputs : List Input) (blocks : List BlockFiles) → AllByRecursion HasNamed inputs → AllZip IsInput inputs blocks → AllZip AreNamed blocks (map numbers_of inputs)
+each_named [] [] named are = tt
+each_named [] (b ∷ bs) named are = absurd are
+each_named (i ∷ inputs) [] named are = absurd are
+each_named (i ∷ inputs) (b ∷ bs) named are =
+    (ap named_segments are.0.index ∙ named.0 ∙ ap (λ (n : ℕ). Some n) (sym (length-map i.segments (λ (s : Read). s.number))), each_named inputs bs named.1 are.1)
+
+pub all_named : (inputs : List Input) (blocks : List BlockFiles) (numbers : List Numbers) → AllByRecursion HasNamed inputs → AreFiles inputs blocks numbers → AllZip AreNamed blocks numbers
+all_named inputs blocks numbers named are = subst (AllZip AreNamed blocks) (sym are.numbers_are) (each_named inputs blocks named are.read)
 
 abbrev pub given_so : (inputs : List Input) (blocks : List BlockFiles) (ulid : ℕ) (labels : List Label) (plan : BlockPlan) → AllZip IsInput inputs blocks
     → IsCompactedPlan (map (λ (b : BlockFiles). b.meta) blocks) ulid labels plan → Given ulid labels inputs
