@@ -25,7 +25,7 @@ sed '/^fn main() {$/,$d; s/^fn per(/fn timed_per(/' "$limit" >"$made/record.rs"
 cat "$top/bench/record.rs" >>"$made/record.rs"
 rustc --edition 2021 -C opt-level=3 -C target-cpu="${LIMIT_CPU:-native}" -A warnings -o "$made/record" "$made/record.rs" \
     -L "$own/out" -l static=record_c -C link-arg="$kit/c/liblibc_c.a"
-${HUSH:-} "$made/record" >"$made/lines"
+"$made/record" >"$made/lines"
 awk '!($1 in time) || $2 < time[$1] { time[$1] = $2 }
 END {
     print "| Record | Bytes | Entries | Sum | Copy | Read | Ratio | Write | Ratio | Bar |\n|---|---|---|---|---|---|---|---|---|---|"

@@ -1,5 +1,8 @@
 //! What a row asks for. Want of memory, and a line that cannot be written, show as what is lacking in the output, by which the
 //! row fails; so no call here hands them on.
+
+ghost use Rattle.journal_records.specs.Writable.{IsWritable};
+
 use journal_records::{Record, read_record, write_record};
 use std::alloc::Global;
 use std::fs;
@@ -84,18 +87,22 @@ fn print_read(rt: &HostRuntime, bytes: &[u8]) {
 }
 
 /// Prints the sizes of a record that was read, and `!` where it is written with other bytes.
-fn print_record(rt: &HostRuntime, bytes: &[u8], record: &Record) {
-    let size = record.script.bytes().len();
-    let count = record.journal.len();
+fn print_record(rt: &HostRuntime, bytes: &[u8], found: &Record)
+    requires { IsWritable found.now.journal }
+{
+    let size = found.script.bytes().len();
+    let count = found.journal.len();
     let _ = print!(rt; "{size}+{count}");
-    if !is_written(rt.alloc(), bytes, record) {
+    if !is_written(rt.alloc(), bytes, found) {
         put(rt, "!");
     }
 }
 
 /// Whether a record is written with these bytes.
-fn is_written(alloc: Global, bytes: &[u8], record: &Record) -> bool {
+fn is_written(alloc: Global, bytes: &[u8], found: &Record) -> bool
+    requires { IsWritable found.now.journal }
+{
     let mut written = Vec::new(alloc);
-    let put = write_record(record.script.bytes(), &record.journal, &mut written);
+    let put = write_record(found.script.bytes(), &found.journal, &mut written);
     put.is_ok() && written.as_slice() == bytes
 }

@@ -333,10 +333,10 @@ answered_so = came_to.Query (queries.Answer small_answer (record { gateway = 0; 
 
 both_out : IsOutcome query_task.work (two.answer_by two.used_by_g ∷ two.answer_by two.used_by_h ∷ []) answered_so
 both_out = (
-  came_to.Query (gave.Answer small_answer) ∷ came_to.Query (gave.Answer small_answer) ∷ [],
+  came_to.Query (gave.Answer small_answer two.used_by_g.view.first) ∷ came_to.Query (gave.Answer small_answer two.used_by_h.view.first) ∷ [],
   (refl, (refl, tt)),
   (
-    gave.Answer small_answer ∷ gave.Answer small_answer ∷ [],
+    gave.Answer small_answer two.used_by_g.view.first ∷ gave.Answer small_answer two.used_by_h.view.first ∷ [],
     queries.Answer small_answer (record { gateway = 0; sources = small.a ∷ [] } ∷ record { gateway = 1; sources = small.a ∷ [] } ∷ []),
     refl,
     (refl, record { merged = merge_both; sources = refl }, refl),

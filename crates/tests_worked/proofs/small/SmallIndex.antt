@@ -35,7 +35,7 @@ use Rattle.index_v2.specs.Held.{whole_file}
 use Rattle.index_v2.specs.Opening.{contents_at, opened_at}
 use Rattle.index_v2.specs.PostingsLists.{list_of, row_of}
 use Rattle.index_v2.specs.SeriesLabels.{label_of, labelled_at, labels_of, numbered_at, texts_at}
-use Rattle.index_v2.specs.WholeReading.{all_at, behind_at, belongs, gap_among, gap_from, gap_of, lists_at, present_at, stray_from, whole_at}
+use Rattle.index_v2.specs.WholeReading.{all_at, behind_at, belongs, differing_at, few_at, gap_among, gap_from, gap_of, lists_at, present_at, stray_from, whole_at}
 use Rattle.index_v2.proofs.OpeningLaws.{opened_found}
 use Rattle.index_v2.proofs.WholeRead.{whole_found}
 use Rattle.tests_worked.specs.SmallFiles as files
@@ -118,7 +118,7 @@ opened_read = refl
 
 pub whole_read : whole_at (whole_file opened) ≡ Ok (listed ∷ [])
 unfolding files.index files.symbols files.series files.label_index files.lists files.label_offsets files.table files.contents
-    whole_at row_of present_at all_at behind_at lists_at stray_from gap_among gap_of gap_from belongs value_of
+    whole_at row_of present_at all_at behind_at few_at differing_at lists_at stray_from gap_among gap_of gap_from belongs value_of
     labelled_at texts_at labels_of label_of labels_begin_at label_at symbol_number_at chunks_at chunk_at begin_at later_at reference_at
     list_at turns_at framed_at summed_at members_at posting_at bytes_at number_at uvarint_at varint_at groups_of crc remainder
 whole_read = refl

@@ -1,7 +1,7 @@
 use Rattle.std.proofs.Common.{◌≡◌, ◌≤◌, ℕ, Some}
 use Rattle.std.specs.List.{flat_map, range_with_len}
 use Rattle.script_running.specs.Gathering.{IsTakenAt, laid_in, slot_at}
-use Rattle.script_running.proofs.gathering.take_parts.Given as goal
+use Rattle.script_running.proofs.gathering.take_all.Given as goal
 
 -- what the gateways so far came to; the slots of the others are as they were
 abbrev pub invariant-loop-gateway : goal.invariant-loop-gateway
