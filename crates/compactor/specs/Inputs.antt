@@ -1,5 +1,6 @@
 -- What a compaction reads of a block.
-use Rattle.std.specs.Prelude.{◌≡◌, map, length, Some}
+use Rattle.std.specs.Prelude.{◌≡◌, ◌≤◌, map, length, Some}
+use Rattle.block_keys.specs.Keys.{segment_limit}
 use Rattle.block_meta.specs.declared.block_files.BlockFiles.{BlockFiles}
 use Rattle.block_merging.specs.PutContent.{AreBytes}
 use Rattle.compactor.specs.Named.{named_segments}
@@ -16,3 +17,7 @@ pub record IsInput (input : Input) (block : BlockFiles) : Type 0 where
 -- the block has just the segments that its index names
 abbrev pub HasNamed : Input → Type 0
 HasNamed input = named_segments input.index.bytes ≡ Some (length input.segments)
+
+-- the block has no more segments than a block may have
+abbrev pub HasFew : Input → Type 0
+HasFew input = length input.segments ≤ segment_limit

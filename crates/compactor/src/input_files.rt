@@ -1,7 +1,8 @@
 //! The files of blocks that were read.
-ghost use Rattle.std.specs.Prelude.{◌≡◌, List, length, [], ◌∷◌, ◌++◌, IfOk, OnOk};
+ghost use Rattle.std.specs.Prelude.{◌≡◌, ◌≤◌, List, length, [], ◌∷◌, ◌++◌, IfOk, OnOk};
+ghost use Rattle.std.specs.List.{AllByRecursion};
 ghost use Rattle.base.specs.Grammar.{IsBytes};
-ghost use Rattle.compactor.specs.Inputs.{IsInput};
+ghost use Rattle.compactor.specs.Inputs.{IsInput, HasFew};
 ghost use Rattle.compactor.specs.InputFiles.{numbers_of, AreFiles, AreSegments};
 ghost use Rattle.compactor.specs.declared.input.Input.{Input};
 
@@ -27,6 +28,7 @@ pub(crate) struct InputFiles {
 
 /// Puts the files of each block together.
 pub(crate) fn all_files(alloc: Global, inputs: InputList) -> Result<InputFiles, NoMemory>
+    requires few { AllByRecursion HasFew inputs }
     ensures { IfOk result (λ made. AreFiles inputs made.blocks made.numbers) }
 {
     let mut blocks = List::new(alloc);
@@ -44,6 +46,7 @@ fn add_input(
     numbers: &mut List<Numbers>,
     input: Input,
 ) -> Result<(), NoMemory>
+    requires few { HasFew input }
     ensures { OnOk result ((inputs : List Input) → AreFiles inputs blocks.old numbers.old
         → AreFiles (inputs ++ input ∷ []) blocks.new numbers.new) }
 {
@@ -55,6 +58,7 @@ fn add_input(
 
 /// The files of a block, and the numbers of the entries at which they were read.
 fn files_of(alloc: Global, input: Input) -> Result<(BlockFiles, Numbers), NoMemory>
+    requires few { HasFew input }
     ensures files { IfOk result (λ made. IsInput input made.0) }
     ensures numbers { IfOk result (λ made. made.1 ≡ numbers_of input) }
 {
