@@ -8,7 +8,7 @@ merge_files-merging-requires c = record {
 }
 
 pub all_files-requires : goal.all_files-requires
-all_files-requires c = named_few c.args.inputs c.requires.named
+all_files-requires c = record { few = named_few c.args.inputs c.requires.named }
 
 pub returns : goal.returns
 returns c = c.merge_files-merging.ensures c.args.inputs c.in_ok-files.ensures
