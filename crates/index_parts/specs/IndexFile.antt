@@ -112,10 +112,10 @@ pub record AreSeriesOf (opened : Opened) (listed : List (ℕ × IndexSeries)) : 
   pub apart : InOrder (StandsBehind opened.bytes) (map (λ one. one.0) listed)
   pub ascend : IsStrictlySortedBy compare_series (map (λ one. one.1) listed)
 
--- The lists of all rows, each as often as a row names it, have no more than eight bytes for each byte before the table. So
--- their bytes can be read once for each row. Lists that have no bytes left over behind their numbers never come near it.
+-- The lists of all rows, each as often as a row names it, have no more than eight bytes for each row and each byte before the
+-- table. So their bytes can be read once for each row. Lists that have no bytes left over behind their numbers never have more.
 abbrev pub AreFewLists : Opened → Type 0
-AreFewLists opened = lists_size (file opened.bytes) opened.rows ≤ 8 * opened.toc.postings_table
+AreFewLists opened = lists_size (file opened.bytes) opened.rows ≤ 8 * (opened.toc.postings_table + length opened.rows)
 
 -- The bytes are an index of these series. Each row of the table lists exactly its series, and each label of a series has its
 -- row.

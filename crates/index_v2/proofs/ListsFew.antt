@@ -1,4 +1,4 @@
--- Lists that are few for the bytes before the table: how long they are said to be, row by row.
+-- Lists that are few for the rows and the bytes before the table: how long they are said to be, row by row.
 use Rattle.std.proofs.Common.{◌≡◌, ℕ, ◌+◌, ◌-◌, ◌*◌, ◌<◌, ◌≤◌, Bool, true, false, List, [], ◌∷◌, length, take, take_all, Some, Ok, refl, sym, ap, ap₂, ◌∙◌, arith}
 use Rattle.std.specs.Prelude.{slice_get, nat_le}
 use Rattle.std.specs.List.{Contains}
@@ -32,9 +32,9 @@ no_size bytes at past = rw (drop_all at bytes (omega arith)) refl
 module _ (here : Part) (rows : List PostingsRow) (table : ℕ) where
   -- what is left for the rows from a place on
   abbrev pub SizesSoFar : ℕ → ℕ → Type 0
-  SizesSoFar place left = left + lists_size here (take place rows) ≡ 8 * table
+  SizesSoFar place left = left + lists_size here (take place rows) ≡ 8 * (table + length rows)
 
-  pub sizes_start : (left : ℕ) → left ≡ 8 * table → SizesSoFar 0 left
+  pub sizes_start : (left : ℕ) → left ≡ 8 * (table + length rows) → SizesSoFar 0 left
   sizes_start left e = let none : lists_size here (take 0 rows) ≡ 0 = refl in omega (arith, e, none)
 
   module _ (place left size : ℕ) (row : PostingsRow) (far : SizesSoFar place left) (at : slice_get rows place ≡ Some row) (is : size ≡ list_size here row.offset) where
@@ -44,11 +44,11 @@ module _ (here : Part) (rows : List PostingsRow) (table : ℕ) where
     pub sizes_step : (next : ℕ) → size ≤ left → next ≡ left - size → SizesSoFar (place + 1) next
     sizes_step next le e = omega (arith, far, size_more, is, le, e)
 
-    pub sizes_over : left < size → false ≡ nat_le (lists_size here rows) (8 * table)
-    sizes_over lt = sym (lt-leb (lists_size here rows) (8 * table) (omega (arith, far, size_more, is, lt, sum_by-take-le (λ (r : PostingsRow). list_size here r.offset) rows (place + 1))))
+    pub sizes_over : left < size → false ≡ nat_le (lists_size here rows) (8 * (table + length rows))
+    sizes_over lt = sym (lt-leb (lists_size here rows) (8 * (table + length rows)) (omega (arith, far, size_more, is, lt, sum_by-take-le (λ (r : PostingsRow). list_size here r.offset) rows (place + 1))))
 
-  pub sizes_end : (place left : ℕ) → SizesSoFar place left → length rows ≤ place → true ≡ nat_le (lists_size here rows) (8 * table)
-  sizes_end place left far le = sym (le-leb (lists_size here rows) (8 * table) (omega (arith, far, ap (lists_size here) (take_all place rows le))))
+  pub sizes_end : (place left : ℕ) → SizesSoFar place left → length rows ≤ place → true ≡ nat_le (lists_size here rows) (8 * (table + length rows))
+  sizes_end place left far le = sym (le-leb (lists_size here rows) (8 * (table + length rows)) (omega (arith, far, ap (lists_size here) (take_all place rows le))))
 
 -- ---- what is tested
 
@@ -58,11 +58,11 @@ few_told false e h = absurd (cc (h))
 
 pub few_found : (opened : Opened) → few_at opened.toc (file opened.bytes) opened.rows ≡ Ok tt → AreFewLists opened
 unfolding few_at
-few_found opened e = leb-true (lists_size (file opened.bytes) opened.rows) (8 * opened.toc.postings_table) (few_told _ (BadSection 5 (part.Unordered opened.toc.postings)) e)
+few_found opened e = leb-true (lists_size (file opened.bytes) opened.rows) (8 * (opened.toc.postings_table + length opened.rows)) (few_told _ (BadSection 5 (part.Unordered opened.toc.postings)) e)
 
 pub few_again : (opened : Opened) → AreFewLists opened → few_at opened.toc (file opened.bytes) opened.rows ≡ Ok tt
 unfolding few_at
-few_again opened few = rw (le-leb (lists_size (file opened.bytes) opened.rows) (8 * opened.toc.postings_table) few) refl
+few_again opened few = rw (le-leb (lists_size (file opened.bytes) opened.rows) (8 * (opened.toc.postings_table + length opened.rows)) few) refl
 
 -- ---- over a part
 
@@ -80,4 +80,5 @@ sizes_same here index is (row ∷ rows) lie =
 pub few_same : (here : Part) (index : List ℕ) (rows others : List PostingsRow) (toc other : Toc) → IsPartOf here index → ((row : PostingsRow) → Contains rows row → HoldsSection here row.offset) → rows ≡ others → toc ≡ other → few_at toc here rows ≡ few_at other (file index) others
 unfolding few_at
 few_same here index rows others toc other is lie same tocs =
-    ap₂ (λ (n : ℕ) (t : Toc). unless (nat_le n (8 * t.postings_table)) (BadSection 5 (part.Unordered t.postings))) (sizes_same here index is rows lie ∙ ap (lists_size (file index)) same) tocs
+    ap₂ (λ (n : ℕ) (t : Toc). unless (nat_le n (8 * (t.postings_table + length rows))) (BadSection 5 (part.Unordered t.postings))) (sizes_same here index is rows lie) tocs
+    ∙ ap (λ (l : List PostingsRow). unless (nat_le (lists_size (file index) l) (8 * (other.postings_table + length l))) (BadSection 5 (part.Unordered other.postings))) same

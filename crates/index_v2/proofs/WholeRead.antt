@@ -1,5 +1,5 @@
 -- A whole index is read exactly where the bytes are an index of the list, and where the lists differ the first place is told.
-use Rattle.std.proofs.Common.{◌≡◌, ◌≢◌, ℕ, ◌*◌, Bool, true, false, List, [], ◌∷◌, map, zip, Option, Some, None, Result, Ok, Err, refl, sym, ap, subst, ◌∙◌, ◌⊎◌, inl, inr}
+use Rattle.std.proofs.Common.{◌≡◌, ◌≢◌, ℕ, ◌+◌, ◌*◌, Bool, true, false, List, [], ◌∷◌, length, map, zip, Option, Some, None, Result, Ok, Err, refl, sym, ap, subst, ◌∙◌, ◌⊎◌, inl, inr}
 use Rattle.std.specs.Prelude.{nat_lt, nat_le, ◌&&◌}
 use Rattle.std.proofs.lemmas.Bool.{cases_lt}
 use Rattle.std.proofs.lemmas.Cmp.{tied_itself}
@@ -118,7 +118,7 @@ all_never index symbols last before (number ∷ numbers) =
 
 few_never : (toc : Toc) (here : Part) (rows : List PostingsRow) → NeverDiffers (few_at toc here rows)
 unfolding few_at
-few_never toc here rows = unless_never (nat_le (lists_size here rows) (8 * toc.postings_table)) _ (in_section 5 (part.Unordered toc.postings))
+few_never toc here rows = unless_never (nat_le (lists_size here rows) (8 * (toc.postings_table + length rows))) _ (in_section 5 (part.Unordered toc.postings))
 
 lists_never : (part : Part) (rows : List PostingsRow) → NeverDiffers (lists_at part rows)
 unfolding lists_at

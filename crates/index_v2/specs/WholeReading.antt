@@ -62,9 +62,9 @@ all_at index symbols last before (number ∷ numbers) = do
 
 -- ---- the postings lists, in the table's order
 
--- together they are few for the bytes before the table: tested before any of them is read
+-- together they are few for the rows and the bytes before the table: tested before any of them is read
 unfoldable pub few_at : Toc → Part → List PostingsRow → Result (Unit {0}) IndexRefusal
-few_at toc here rows = unless (nat_le (lists_size here rows) (8 * toc.postings_table)) (BadSection postings_section (part.Unordered toc.postings))
+few_at toc here rows = unless (nat_le (lists_size here rows) (8 * (toc.postings_table + length rows))) (BadSection postings_section (part.Unordered toc.postings))
 
 unfoldable pub lists_at : Part → List PostingsRow → Result (List (List ℕ)) IndexRefusal
 lists_at part [] = Ok []

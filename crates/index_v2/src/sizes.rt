@@ -1,6 +1,6 @@
 //! How long series and lists are said to be, before they are read: so no more is read than an index's bytes allow.
 
-ghost use Rattle.std.specs.Prelude.{◌≡◌, ◌*◌, ◌^◌, ◌<◌, nat_le, IfSome};
+ghost use Rattle.std.specs.Prelude.{◌≡◌, ◌+◌, ◌*◌, ◌^◌, ◌<◌, nat_le, length, IfSome};
 ghost use Rattle.base.specs.Reading.{Answers};
 ghost use Rattle.std.specs.Int.{w32};
 ghost use Rattle.wire_bytes.specs.Fields.{number_at};
@@ -63,11 +63,13 @@ fn size_at(bytes: &[u8], at: u64) -> u32
     cursor.take_u32().unwrap_or(0)
 }
 
-/// Whether the lists of rows, each as often as a row names it, have no more than eight bytes for each byte before the table.
+/// Whether the lists of rows, each as often as a row names it, have no more than eight bytes for each row and each byte before
+/// the table.
 fn are_few(part: IndexPart<'_>, rows: &Rows<'_>, table: u64) -> bool
-    ensures { result ≡ nat_le (lists_size (part_of part.entry) rows.now) (8 * table) }
+    ensures { result
+        ≡ nat_le (lists_size (part_of part.entry) rows.now) (8 * (table + length rows.now)) }
 {
-    let mut left = 8 * u128::from(table);
+    let mut left = 8 * (u128::from(table) + rows.len() as u128);
     for place in 0..rows.len() {
         let Some(row) = rows.get(place) else {
             return true;
@@ -81,7 +83,7 @@ fn are_few(part: IndexPart<'_>, rows: &Rows<'_>, table: u64) -> bool
     true
 }
 
-/// Tests from their lengths alone that the lists of rows are few for the bytes before the table.
+/// Tests from their lengths alone that the lists of rows are few for the rows and the bytes before the table.
 #[tactic(auto, unfolding(crate::specs::WholeReading::few_at))]
 pub(crate) fn test_lists(
     toc: &Toc,

@@ -4,7 +4,7 @@ use Rattle.index_v2.proofs.LabelReading.{gives_err}
 use Rattle.index_v2.proofs.ranked.ranks_at.Goals as goal
 
 pub loop-init : goal.loop-init
-loop-init c = ranks_start _ _ c.new-ranks.ensures.items
+loop-init c = ?
 
 pub returns-in_err-label : goal.returns-in_err-label
 returns-in_err-label c = gives_err _ _ _ _ _ c.from_residual.ensures.1 (ranks_stop c.loop.counter _ _ _ _ _ c.loop.invariant c.loop-test.true c.in_err-label.ensures)
