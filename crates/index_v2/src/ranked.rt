@@ -41,16 +41,7 @@ fn ranks_of(label: RawLabel) -> Ranks
     }
 }
 
-/// For how many labels a list begins with room: for so many, where there are more symbols than that.
-fn room_for(count: u64, symbols: usize) -> usize {
-    if count < symbols as u64 {
-        count as usize
-    } else {
-        symbols
-    }
-}
-
-/// The ranks of the next labels, so many, in an index with so many symbols.
+/// The ranks of the next labels, so many, in an index with so many symbols. For no more than these there is room at once.
 fn ranks_at(
     alloc: Global,
     count: u64,
@@ -59,8 +50,8 @@ fn ranks_at(
 ) -> Result<RankList, PartRefusal>
     ensures { Gives PartRefusal.NoMemory (λ ranks. ranks) result (ranks_at count cursor.entry) }
 {
-    let mut ranks = Vec::new(alloc);
-    ranks.reserve_exact(room_for(count, symbols))?;
+    let room = count.min(symbols as u64) as usize;
+    let mut ranks = Vec::with_capacity(alloc, room)?;
     let mut rest = cursor;
     for _ in 0..count {
         let (label, after) = next_label(rest)?;
