@@ -42,19 +42,22 @@ full_size : (index : List ℕ) (at : ℕ) (numbers : List ℕ) (is : IsPostings 
 full_size index at numbers is none =
     let section = is.section in
     let read = number_again w32 wide32 (at_place index at) section.size (length is.content) (is.content ++ section.sum ++ section.after) section.size_is (section.stands ∙ sym (regroup section.size is.content section.sum section.after)) in
-    let content = ap length is.content_is ∙ length-append is.count (is.texts ++ is.left_over) in
     let from_start : at - 0 ≡ at = omega arith in
-    rw (le-ltb at 0 (omega arith), from_start)
-    (ap told read ∙ omega (arith, content, length-append is.texts is.left_over, ap length none, ap length is.count_is.digits, wide32.len (length numbers), numbers_long _ is.texts numbers is.texts_are))
+    let size : list_size (file index) at ≡ length is.content = rw (le-ltb at 0 (omega arith), from_start) (ap told read) in
+    let content = ap length is.content_is ∙ length-append (is.count ++ is.texts) is.left_over in
+    omega (arith, size, content, length-append is.count is.texts, ap length none, ap length is.count_is.digits, wide32.len (length numbers), numbers_long _ is.texts numbers is.texts_are)
 
 -- ---- what the numbers of all lists stand for
 
 label_of : PostingsRow → Label
 label_of row = record { name = row.name; value = row.value }
 
+abbrev under : ℕ → Label → ℕ × Label
+under number label = (number, label)
+
 -- the row of all, and the labels of a series
 places_of : ℕ × IndexSeries → List (ℕ × Label)
-places_of one = map (λ (l : Label). (one.0, l)) (record { name = []; value = [] } ∷ one.1.labels)
+places_of one = map (under one.0) (record { name = []; value = [] } ∷ one.1.labels)
 
 all_places : List (ℕ × IndexSeries) → List (ℕ × Label)
 all_places [] = []
@@ -71,14 +74,14 @@ many_places (one ∷ listed) =
       arith,
       many_places listed,
       length-append (places_of one) (all_places listed),
-      length-map one.1.labels (λ (l : Label). (one.0, l)),
+      length-map one.1.labels (under one.0),
       sum_by-cons (λ (s : IndexSeries). length s.labels) one.1 (listed_series listed),
     )
 
 belongs_there : (one : ℕ × IndexSeries) (row : PostingsRow) → BelongsTo row one.1 → Contains (places_of one) (one.0, label_of row)
 unfolding places_of label_of
 belongs_there one row (inl (name, value)) = rw (name, value) (contains_first _ _)
-belongs_there one row (inr has) = contains_later _ _ _ (into_map (λ (l : Label). (one.0, l)) one.1.labels _ has)
+belongs_there one row (inr has) = contains_later _ _ _ (into_map (under one.0) one.1.labels _ has)
 
 place_there : (listed : List (ℕ × IndexSeries)) (one : ℕ × IndexSeries) (row : PostingsRow) → Contains listed one → BelongsTo row one.1 → Contains (all_places listed) (one.0, label_of row)
 unfolding all_places
@@ -93,43 +96,45 @@ unfolding label_of
 first_below row rows other ascend among same =
     let at = place_of_member rows other among in
     let less : compare_rows row other ≡ Less = Less-at_places compare_rows (row ∷ rows) 0 (suc at.0) row other ascend (omega arith) refl at.1 in
-    let alike : compare_rows row other ≡ compare_rows row row = rw (← ap (λ (l : Label). l.name) same, ← ap (λ (l : Label). l.value) same) refl in
+    let name : row.name ≡ other.name = ap (λ (l : Label). l.name) same in
+    let value : row.value ≡ other.value = ap (λ (l : Label). l.value) same in
+    let alike : compare_rows row other ≡ compare_rows row row = rw (← name, ← value) refl in
     let both : Less ≡ Equal = sym less ∙ alike ∙ tied_itself rows_total row in
     cc
 
 module _ (index : List ℕ) (listed : List (ℕ × IndexSeries)) where
   -- what the numbers in the lists of rows stand for: none for what another does
   record Stand (rows : List PostingsRow) : Type 0 where
-    pub for : List (ℕ × Label)
-    pub apart : AreApart for
-    pub among : (p : ℕ × Label) → Contains for p → Contains (all_places listed) p
-    pub of_row : (p : ℕ × Label) → Contains for p → (row : PostingsRow) × Contains rows row × (p.1 ≡ label_of row)
-    pub size : lists_size (file index) rows ≡ 4 * (length rows + length for)
+    pub pairs : List (ℕ × Label)
+    pub apart : AreApart pairs
+    pub among : (p : ℕ × Label) → Contains pairs p → Contains (all_places listed) p
+    pub of_row : (p : ℕ × Label) → Contains pairs p → (row : PostingsRow) × Contains rows row × (p.1 ≡ label_of row)
+    pub size : lists_size (file index) rows ≡ 4 * (length rows + length pairs)
 
   stand : (rows : List PostingsRow) → IsStrictlySortedBy compare_rows rows → ((row : PostingsRow) → Contains rows row → IsFullListOf index listed row) → Stand rows
   unfolding AreApart
-  stand [] ascend full = record { for = []; apart = tt; among = λ p has. absurd (no_member p has); of_row = λ p has. absurd (no_member p has); size = refl }
+  stand [] ascend full = record { pairs = []; apart = tt; among = λ p has. absurd (no_member p has); of_row = λ p has. absurd (no_member p has); size = refl }
   stand (row ∷ rows) ascend full =
       let others = stand rows (sorted_tail compare_rows row rows ascend) (λ one has. full one (contains_later row one rows has)) in
       let is = (full row (contains_first row rows)).0 in
-      let pair = λ (n : ℕ). (n, label_of row) in
+      let pair : ℕ → ℕ × Label = λ n. (n, label_of row) in
       let here = map pair is.numbers in
       let rise = numbers_rise index row.offset is.numbers is.stands in
-      let none : (p : ℕ × Label) → Contains here p → Contains others.for p → ⊥ = λ p one other.
+      let none : (p : ℕ × Label) → Contains here p → Contains others.pairs p → ⊥ = λ p one other.
       let from = of_map pair is.numbers p one in
       let behind = others.of_row p other in
       first_below row rows behind.0 ascend behind.1 (ap (λ (q : ℕ × Label). q.1) from.2 ∙ behind.2) in
       record {
-        for = here ++ others.for;
-        apart = apart_append here others.for (apart_map pair (λ n m same. ap (λ (q : ℕ × Label). q.0) same) is.numbers (rising_apart is.numbers rise)) others.apart none;
-        among = λ p has. elim (Contains-append_cases here others.for p has) [
+        pairs = here ++ others.pairs;
+        apart = apart_append here others.pairs (apart_map pair (λ n m same. ap (λ (q : ℕ × Label). q.0) same) is.numbers (rising_apart is.numbers rise)) others.apart none;
+        among = λ p has. elim (Contains-append_cases here others.pairs p has) [
           | inl one ↦
               let from = of_map pair is.numbers p one in
               let only = is.only from.0 from.1 in
               subst (Contains (all_places listed)) from.2 (place_there listed (from.0, only.0) row only.1 only.2)
           | inr other ↦ others.among p other
         ];
-        of_row = λ p has. elim (Contains-append_cases here others.for p has) [
+        of_row = λ p has. elim (Contains-append_cases here others.pairs p has) [
           | inl one ↦ (row, contains_first row rows, sym (ap (λ (q : ℕ × Label). q.1) (of_map pair is.numbers p one).2))
           | inr other ↦ let behind = others.of_row p other in (behind.0, contains_later row behind.0 rows behind.1, behind.2)
         ];
@@ -138,7 +143,7 @@ module _ (index : List ℕ) (listed : List (ℕ × IndexSeries)) where
           full_size index row.offset is.numbers is.stands (full row (contains_first row rows)).1,
           others.size,
           sum_by-cons (λ (r : PostingsRow). list_size (file index) r.offset) row rows,
-          length-append here others.for,
+          length-append here others.pairs,
           length-map is.numbers pair,
         );
       }
@@ -159,8 +164,8 @@ but_one : (list : List IndexSeries) → IsStrictlySortedBy compare_series list �
 but_one [] ascend = omega arith
 but_one (one ∷ list) ascend =
     let later = labelled list (λ other has.
-        let at = place_of_member list other has in
-        some_labels one.labels other.labels (Less-at_places compare_series (one ∷ list) 0 (suc at.0) one other ascend (omega arith) refl at.1)) in
+    let at = place_of_member list other has in
+    some_labels one.labels other.labels (Less-at_places compare_series (one ∷ list) 0 (suc at.0) one other ascend (omega arith) refl at.1)) in
     omega (arith, later, sum_by-cons (λ (s : IndexSeries). length s.labels) one list)
 
 -- ---- the whole
@@ -174,7 +179,7 @@ by_rows index table (row ∷ rows) listed ascend series full =
     omega (
       arith,
       s.size,
-      fewer s.for (all_places listed) s.apart s.among,
+      fewer s.pairs (all_places listed) s.apart s.among,
       many_places listed,
       but_one (listed_series listed) series,
       length-map listed (λ (one : ℕ × IndexSeries). one.1),

@@ -1,10 +1,10 @@
 -- Lists that are few for the rows, the labels of the series and the bytes before the table: how long they are said to be, row by
 -- row.
-use Rattle.std.proofs.Common.{◌≡◌, ℕ, ◌+◌, ◌-◌, ◌*◌, ◌<◌, ◌≤◌, Bool, true, false, List, [], ◌∷◌, length, take, take_all, get_or, sum_by, None, Some, Ok, refl, sym, ap, ap₂, ◌∙◌, arith}
+use Rattle.std.proofs.Common.{◌≡◌, ℕ, ◌+◌, ◌-◌, ◌*◌, ◌<◌, ◌≤◌, Bool, true, false, List, [], ◌∷◌, length, take, take_all, sum_by, None, Some, Ok, refl, sym, ap, ap₂, ◌∙◌, arith}
 use Rattle.std.specs.Prelude.{slice_get, nat_le}
 use Rattle.std.specs.List.{Contains}
 use Rattle.std.proofs.lemmas.Bool.{le-leb, lt-leb, leb-true}
-use Rattle.std.proofs.lemmas.List.{drop_all, take_more}
+use Rattle.std.proofs.lemmas.List.{drop_all}
 use Rattle.std.proofs.lemmas.List.Sums.{sum_by-cons, sum_by_push, sum_by-take-le}
 use Rattle.base.specs.Grammar.{IsBytes}
 use Rattle.base.specs.Reading.{unless}
@@ -62,15 +62,15 @@ few_told true e h = refl
 few_told false e h = absurd (cc (h))
 
 module _ (opened : Opened) (list : List IndexSeries) where
-  most : ℕ
+  abbrev most : ℕ
   most = 8 * (opened.toc.postings_table + length opened.rows + labels_of list)
 
   pub few_found : few_at opened.toc (file opened.bytes) opened.rows list ≡ Ok tt → AreFewLists opened list
-  unfolding few_at most
+  unfolding few_at
   few_found e = leb-true (lists_size (file opened.bytes) opened.rows) most (few_told _ (BadSection 5 (part.Unordered opened.toc.postings)) e)
 
   pub few_again : AreFewLists opened list → few_at opened.toc (file opened.bytes) opened.rows list ≡ Ok tt
-  unfolding few_at most
+  unfolding few_at
   few_again few = rw (le-leb (lists_size (file opened.bytes) opened.rows) most few) refl
 
 -- ---- over a part
@@ -101,13 +101,3 @@ labels_members (one ∷ list) = omega (arith, labels_members list, sum_by-cons (
 
 pub labels_few : (index : List ℕ) (symbols : List (List ℕ)) (numbers : List ℕ) (list : List IndexSeries) → IsBytes index → all_at index symbols None None numbers ≡ Ok list → labels_of list ≤ length index
 labels_few index symbols numbers list bytes e = omega (arith, labels_members list, all_bounded index symbols numbers list bytes e)
-
--- so many of the series are counted
-pub count_step : (series : List IndexSeries) (place : ℕ) (one d : IndexSeries) (count next : ℕ) → count ≡ labels_of (take place series) → place < length series → one ≡ get_or series place d → next ≡ count + length one.labels → next ≡ labels_of (take (place + 1) series)
-count_step series place one d count next far lt at e =
-    let more = ap labels_of (take_more series place d lt) in
-    let pushed = sum_by_push (λ (s : IndexSeries). length s.labels) (take place series) (get_or series place d) in
-    omega (arith, far, e, more, pushed, ap (λ (s : IndexSeries). length s.labels) at)
-
-pub count_most : (series : List IndexSeries) (place : ℕ) → labels_of (take place series) ≤ labels_of series
-count_most series place = sum_by-take-le (λ (s : IndexSeries). length s.labels) series place

@@ -100,7 +100,7 @@ module _ (index : List ℕ) where
 pub all_bounded : (index : List ℕ) (symbols : List (List ℕ)) (numbers : List ℕ) (list : List IndexSeries) → IsBytes index → all_at index symbols None None numbers ≡ Ok list → sum_by members_of list ≤ length index
 all_bounded index symbols numbers list bytes e =
     let read = all_found index symbols None None numbers list e in
-    all_few index symbols bytes None numbers list read.many read.each read.apart (omega arith)
+    omega (arith, all_few index symbols bytes None numbers list read.many read.each read.apart (omega arith))
 
 -- and so has what is read of a whole index
 pub whole_bounded : (held : Held) (list : List IndexSeries) → IsBytes held.bytes → whole_at held ≡ Ok list → sum_by members_of list ≤ length held.bytes

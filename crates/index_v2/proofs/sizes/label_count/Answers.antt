@@ -1,1 +1,0 @@
-use Rattle.index_v2.proofs.sizes.label_count.Goals as goal
