@@ -16,7 +16,7 @@ trouble_of kinds.ReadOnlyFilesystem = troubles.Forbidden
 trouble_of kinds.StorageFull = troubles.Full
 trouble_of kinds.QuotaExceeded = troubles.Full
 trouble_of kinds.OutOfMemory = troubles.NoMemory
-trouble_of others = troubles.Other
+trouble_of _ = troubles.Other
 
 -- Of the failures so far the first one's trouble is kept, and there is one where a call has failed.
 pub record KeepsTrouble (old new : Option Trouble) (failed : Bool) : Type 0 where

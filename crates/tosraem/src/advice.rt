@@ -19,13 +19,23 @@ const USAGE: &str =
 BUCKET is the word memory, or a folder that is new or empty. SHELF is the word none, or a folder of blocks.
 ";
 
-/// Says on standard error, or to another writer, what is to be said of a call that ended with this number, and with this trouble.
-pub(crate) fn tell<W: Write>(number: u8, troubles: Troubles, errors: &mut W) -> io::Result<()>
+/// Says on standard error, or to another writer, what is to be said of a call that ended with this number, with this trouble and
+/// with these messages on its failures.
+pub(crate) fn tell<W: Write>(
+    number: u8,
+    troubles: Troubles,
+    messages: &[u8],
+    errors: &mut W,
+) -> io::Result<()>
     ensures { (status : Status) → number ≡ number_of status → OnOk result
-        (Appends (W.contents errors.old) (W.contents errors.new) (said_of status troubles)) }
+        (Appends (W.contents errors.old) (W.contents errors.new)
+        (messages.now ++ said_of status troubles)) }
 {
     match Status::from_number(number) {
-        Some(status) => say(status, troubles, errors),
+        Some(status) => {
+            errors.write_all(messages)?;
+            say(status, troubles, errors)
+        }
         None => Ok(()),
     }
 }

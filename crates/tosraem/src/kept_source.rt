@@ -45,8 +45,7 @@ impl<S: Source + Drop> KeptSource<S> {
         ensures source { self.new.source ≡ self.old.source }
     {
         let is_short = bytes.len() <= MOST_KEPT && self.text.len() <= MOST_KEPT - bytes.len();
-        self.is_whole =
-            self.is_whole && is_short && self.text.extend_from_slice(bytes).is_ok();
+        self.is_whole = self.is_whole && is_short && self.text.extend_from_slice(bytes).is_ok();
     }
 }
 
