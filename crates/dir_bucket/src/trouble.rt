@@ -27,6 +27,7 @@ pub enum Trouble {
 
 impl Trouble {
     /// The trouble that an error of the system tells of.
+    #[tactic(auto, unfolding(crate::specs::Troubles::trouble_of))]
     pub(crate) fn of(error: &io::Error) -> Trouble
         ensures { result ≡ trouble_of (error_kind error.now) }
     {

@@ -1,6 +1,6 @@
 -- What standard error is told of the failures of a call.
 use Rattle.std.specs.Prelude.{◌≡◌, ◌⊎◌, ℕ, List, [], ◌++◌, take}
-use Rattle.script_core.specs.GivenUp.{IsGivenUp}
+use Rattle.script_core.specs.GivenUp.{HasPatternLine}
 use Rattle.script_core.specs.Spelling.{Spells}
 use Rattle.script_core.specs.declared.script.Script.{Script}
 use Rattle.world_core.specs.declared.entry.Entry.{Entry}
@@ -8,10 +8,10 @@ use Rattle.run_messages.specs.Messages.{AreMessages, more_words, most_told}
 use Rattle.run_messages.specs.Places.{lines_of_phases}
 use Rattle.run_messages.specs.declared.told.Told.{Told}
 
--- the lines of the tasks of a script, or none where the text is none, or is given up
+-- The lines of the tasks of a script. There are none where the text is no script, or has a query by a pattern, which may be too large.
 pub record AreLinesOf (text : List ℕ) (lines : List ℕ) : Type 0 where
   pub found : (lines ≡ []) ⊎ ((script : Script) × Spells text script × (lines ≡ lines_of_phases script.phases))
-  pub only : (script : Script) → Spells text script → (lines ≡ lines_of_phases script.phases) ⊎ IsGivenUp text
+  pub only : (script : Script) → Spells text script → (lines ≡ lines_of_phases script.phases) ⊎ ((number : ℕ) × HasPatternLine text number)
 
 -- the messages on failures, of a call over this script and with this journal
 abbrev pub AreCallMessages : List Told → List ℕ → List Entry → List ℕ → Type 0

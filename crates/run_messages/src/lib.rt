@@ -5,7 +5,7 @@
 mod breach;
 mod dates;
 mod finding;
-mod messages;
+mod of_calls;
 mod pieces;
 mod places;
 mod script_finding;
@@ -15,6 +15,6 @@ mod told;
 
 pub use breach::{Breach, BrokenRule};
 pub use finding::{Finding, finding_of};
-pub use messages::messages;
+pub use of_calls::messages;
 pub use script_finding::ScriptFinding;
 pub use told::{Told, ToldList, told_in};

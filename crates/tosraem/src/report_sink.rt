@@ -21,6 +21,7 @@ pub(crate) enum ReportTrouble {
 }
 
 impl ReportTrouble {
+    #[tactic(auto, unfolding(crate::specs::Troubles::report_trouble_of))]
     fn of(error: &Error) -> ReportTrouble
         ensures { result ≡ report_trouble_of (error_kind error.now) }
     {
