@@ -84,7 +84,7 @@ IsFine (came_to.Compact end) = is_as_asked (came_to.Compact end) ≡ true
 IsFine (came_to.Clean end) = is_as_asked (came_to.Clean end) ≡ true
 IsFine (came_to.Query own) = why_none own ≡ None
 
-call_fine : (used : Use) (end : SeriesEnd) → IsWell (answered used end) → why_none (call_part end) ≡ None
+call_fine : (used : Use) (end : SeriesEnd) → IsWell (answered used end) → why_none (call_part used.view.first end) ≡ None
 call_fine used (called.Answer series sources) well = refl
 call_fine used (called.Missing entry) well = absurd well
 call_fine used (called.Damaged entry) well = absurd well
@@ -102,7 +102,7 @@ part_fine (work.Compact stop) (compacted e) one well is = fine_as one (came_to.C
 part_fine (work.Compact stop) (stopped count) one well is = fine_as one (came_to.Compact (halt.At count)) is refl
 part_fine (work.Clean stop) (cleaned e) one well is = fine_as one (came_to.Clean (halt.Ended e)) is (clean_asked e well.0 well.2)
 part_fine (work.Clean stop) (stopped count) one well is = fine_as one (came_to.Clean (halt.At count)) is refl
-part_fine (work.Query low high n) (answered used e) one well is = fine_as one (came_to.Query (call_part e)) is (call_fine used e well.0)
+part_fine (work.Query low high n) (answered used e) one well is = fine_as one (came_to.Query (call_part used.view.first e)) is (call_fine used e well.0)
 part_fine (work.Query low high n) without_view one well is = absurd well.0
 part_fine (work.Query low high n) not_asked one well is = fine_as one (came_to.Query given.NotAsked) is refl
 part_fine w end one well is = absurd is
@@ -120,8 +120,9 @@ parts_fine w (end ∷ own) (one ∷ parts) well all =
 none_told : (gateway : ℕ) (own : List QueryPart) → AllByRecursion IsFine (map came_to.Query own) → first_none gateway own ≡ None
 none_told gateway [] fine = refl
 none_told gateway (given.NotAsked ∷ own) fine = none_told (gateway + 1) own fine.1
-none_told gateway (given.Answer a ∷ own) fine = none_told (gateway + 1) own fine.1
-none_told gateway (given.NoAnswer why ∷ own) fine = absurd (let none = fine.0 in cc (none))
+none_told gateway (given.NoView ∷ own) fine = absurd (let none = fine.0 in cc (none))
+none_told gateway (given.Answer a first ∷ own) fine = none_told (gateway + 1) own fine.1
+none_told gateway (given.NoAnswer why first ∷ own) fine = absurd (let none = fine.0 in cc (none))
 
 query_asked : (own : List QueryPart) (end : QueryOutcome) → AllByRecursion IsFine (map came_to.Query own) → IsQueryOutcome own end → is_as_asked (came_to.Query end) ≡ true
 query_asked own (query.Answer answer names) fine is = refl

@@ -31,7 +31,6 @@ use Rattle.call_verdicts.specs.script_running.specs.Outcomes.{IsOutcome, IsPart,
 use Rattle.replay_cli.specs.ToldAnswers.{IsTold, IsWorth, ToldAnswer, answered_by}
 use Rattle.call_verdicts.specs.Verdicts.{IsFullRun, IsWholeRun}
 use Rattle.call_verdicts.specs.report_lines.specs.Telling.{tasks_of}
-use Rattle.call_verdicts.specs.script_running.specs.declared.outcome.NoAnswer.TheVariants as nothing
 use Rattle.call_verdicts.specs.script_running.specs.declared.came.Came.TheVariants as came_to
 use Rattle.call_verdicts.specs.script_running.specs.declared.outcome.QueryOutcome.TheVariants as query
 use Rattle.call_verdicts.specs.script_running.specs.declared.outcome.QueryPart.{QueryPart}
@@ -117,12 +116,12 @@ phase_of setting number (phase ∷ phases) (first ∷ later) outcomes (own, othe
 -- a gateway's part of a query that was answered: an answer, or it was not asked
 abbrev query_part : Option Several.Part → QueryPart
 query_part None = given.NotAsked
-query_part (Some p) = given.Answer (whole_answer p.series p.sources)
+query_part (Some p) = given.Answer (whole_answer p.series p.sources) p.used.view.first
 
 pub inner : (own other : QueryPart) → came_to.Query own ≡ came_to.Query other → own ≡ other
 inner own other is = cc (is)
 
-by_call : (used : Use) (end : SeriesEnd) (own : QueryPart) → own ≡ call_part end → why_none own ≡ None → (p : Option Several.Part) × (answered used end ≡ end_of p) × (own ≡ query_part p)
+by_call : (used : Use) (end : SeriesEnd) (own : QueryPart) → own ≡ call_part used.view.first end → why_none own ≡ None → (p : Option Several.Part) × (answered used end ≡ end_of p) × (own ≡ query_part p)
 by_call used (called.Answer series sources) own is none = (Some (record { used = used; series = series; sources = sources }), refl, is)
 by_call used (called.Missing n) own is none = absurd (let w = ap why_none is in cc (w, none))
 by_call used (called.Damaged n) own is none = absurd (let w = ap why_none is in cc (w, none))
@@ -133,8 +132,8 @@ by_part low high n (uploaded e) own is none = absurd is
 by_part low high n (synced e) own is none = absurd is
 by_part low high n (compacted e) own is none = absurd is
 by_part low high n (cleaned e) own is none = absurd is
-by_part low high n (answered used e) own is none = by_call used e own (inner own (call_part e) is) none
-by_part low high n without_view own is none = absurd (let w = ap why_none (inner own (given.NoAnswer nothing.NoView) is) in cc (w, none))
+by_part low high n (answered used e) own is none = by_call used e own (inner own (call_part used.view.first e) is) none
+by_part low high n without_view own is none = absurd (let w = ap why_none (inner own given.NoView is) in cc (w, none))
 by_part low high n not_asked own is none = (None, refl, inner own given.NotAsked is)
 by_part low high n (refused cause) own is none = absurd is
 by_part low high n (stopped count) own is none = absurd is
@@ -142,8 +141,9 @@ by_part low high n (stopped count) own is none = absurd is
 -- where none is told, none of them gave none
 first_answers : (gateway : ℕ) (own : QueryPart) (parts : List QueryPart) → first_none gateway (own ∷ parts) ≡ None → (why_none own ≡ None) × (first_none (gateway + 1) parts ≡ None)
 first_answers gateway given.NotAsked parts is = (refl, is)
-first_answers gateway (given.Answer a) parts is = (refl, is)
-first_answers gateway (given.NoAnswer why) parts is = absurd (cc (is))
+first_answers gateway given.NoView parts is = absurd (cc (is))
+first_answers gateway (given.Answer a first) parts is = (refl, is)
+first_answers gateway (given.NoAnswer why first) parts is = absurd (cc (is))
 
 -- a query that answers does so by the answers of its gateways
 record IsByAll (ends : List End) (own : List QueryPart) : Type 0 where

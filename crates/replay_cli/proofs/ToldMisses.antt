@@ -46,24 +46,24 @@ missing gateway number = came_to.Query (query.NoAnswer gateway (none.Missing num
 abbrev Missed : List End → ℕ → Type 0
 Missed own number = (used : Use) × Contains own (answered used (called.Missing number))
 
-call_missed : (number : ℕ) (used : Use) (end : SeriesEnd) → given.NoAnswer (none.Missing number) ≡ call_part end → Missed (answered used end ∷ []) number
-call_missed number used (called.Answer series sources) is = absurd (cc (is))
-call_missed number used (called.Missing m) is =
+call_missed : (number first : ℕ) (used : Use) (end : SeriesEnd) → given.NoAnswer (none.Missing number) first ≡ call_part used.view.first end → Missed (answered used end ∷ []) number
+call_missed number first used (called.Answer series sources) is = absurd (cc (is))
+call_missed number first used (called.Missing m) is =
     let same : number ≡ m = cc (is) in
     (used, subst (λ (k : ℕ). Contains (answered used (called.Missing m) ∷ []) (answered used (called.Missing k))) (sym same) (contains_first (answered used (called.Missing m)) []))
-call_missed number used (called.Damaged m) is = absurd (cc (is))
-call_missed number used (called.Fault m) is = absurd (cc (is))
+call_missed number first used (called.Damaged m) is = absurd (cc (is))
+call_missed number first used (called.Fault m) is = absurd (cc (is))
 
-part_missed : (low high : ℤ) (n number : ℕ) (end : End) → IsPart (work.Query low high n) end (came_to.Query (given.NoAnswer (none.Missing number))) → Missed (end ∷ []) number
-part_missed low high n number (answered used e) is = call_missed number used e (inner (given.NoAnswer (none.Missing number)) (call_part e) is)
-part_missed low high n number without_view is = absurd (let same = inner (given.NoAnswer (none.Missing number)) (given.NoAnswer none.NoView) is in cc (same))
-part_missed low high n number not_asked is = absurd (let same = inner (given.NoAnswer (none.Missing number)) given.NotAsked is in cc (same))
-part_missed low high n number (uploaded e) is = absurd is
-part_missed low high n number (synced e) is = absurd is
-part_missed low high n number (compacted e) is = absurd is
-part_missed low high n number (cleaned e) is = absurd is
-part_missed low high n number (refused cause) is = absurd is
-part_missed low high n number (stopped count) is = absurd is
+part_missed : (low high : ℤ) (n number first : ℕ) (end : End) → IsPart (work.Query low high n) end (came_to.Query (given.NoAnswer (none.Missing number) first)) → Missed (end ∷ []) number
+part_missed low high n number first (answered used e) is = call_missed number first used e (inner (given.NoAnswer (none.Missing number) first) (call_part used.view.first e) is)
+part_missed low high n number first without_view is = absurd (let same = inner (given.NoAnswer (none.Missing number) first) given.NoView is in cc (same))
+part_missed low high n number first not_asked is = absurd (let same = inner (given.NoAnswer (none.Missing number) first) given.NotAsked is in cc (same))
+part_missed low high n number first (uploaded e) is = absurd is
+part_missed low high n number first (synced e) is = absurd is
+part_missed low high n number first (compacted e) is = absurd is
+part_missed low high n number first (cleaned e) is = absurd is
+part_missed low high n number first (refused cause) is = absurd is
+part_missed low high n number first (stopped count) is = absurd is
 
 later_missed : (end : End) (ends : List End) (number : ℕ) → Missed ends number → Missed (end ∷ ends) number
 later_missed end ends number m = (m.0, contains_later end (answered m.0 (called.Missing number)) ends m.1)
@@ -73,11 +73,14 @@ query_missed low high n first [] [] gateway number all is = absurd (cc (is))
 query_missed low high n first [] (q ∷ own) gateway number all is = absurd all
 query_missed low high n first (end ∷ ends) [] gateway number all is = absurd all
 query_missed low high n first (end ∷ ends) (given.NotAsked ∷ own) gateway number all is = later_missed end ends number (query_missed low high n (first + 1) ends own gateway number all.1 is)
-query_missed low high n first (end ∷ ends) (given.Answer a ∷ own) gateway number all is = later_missed end ends number (query_missed low high n (first + 1) ends own gateway number all.1 is)
-query_missed low high n first (end ∷ ends) (given.NoAnswer why ∷ own) gateway number all is =
+query_missed low high n first (end ∷ ends) (given.NoView ∷ own) gateway number all is =
+    let pair : ◌≡◌ {A = ℕ × NoAnswer} (first, none.NoView) (gateway, none.Missing number) = same_Some (first, none.NoView) (gateway, none.Missing number) is in
+    absurd (let why = ap (λ (p : ℕ × NoAnswer). p.1) pair in cc (why))
+query_missed low high n first (end ∷ ends) (given.Answer a begun ∷ own) gateway number all is = later_missed end ends number (query_missed low high n (first + 1) ends own gateway number all.1 is)
+query_missed low high n first (end ∷ ends) (given.NoAnswer why begun ∷ own) gateway number all is =
     let pair : ◌≡◌ {A = ℕ × NoAnswer} (first, why) (gateway, none.Missing number) = same_Some (first, why) (gateway, none.Missing number) is in
     let same : why ≡ none.Missing number = ap (λ (p : ℕ × NoAnswer). p.1) pair in
-    let m = part_missed low high n number end (subst (λ (y : NoAnswer). IsPart (work.Query low high n) end (came_to.Query (given.NoAnswer y))) same all.0) in
+    let m = part_missed low high n number begun end (subst (λ (y : NoAnswer). IsPart (work.Query low high n) end (came_to.Query (given.NoAnswer y begun))) same all.0) in
     (m.0, Contains-append_left (end ∷ []) ends (answered m.0 (called.Missing number)) m.1)
 
 end_is : (gateway number : ℕ) (end : QueryOutcome) → missing gateway number ≡ came_to.Query end → end ≡ query.NoAnswer gateway (none.Missing number)

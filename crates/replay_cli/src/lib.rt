@@ -14,8 +14,7 @@ mod tool;
 
 pub use call_verdicts::report_lines::CheckOutcome;
 pub use call_verdicts::script_running::{
-    Came, CleanEnd, CompactEnd, NoAnswer, Outcome, OutcomeList, QueryOutcome, Stop, SyncOutcome,
-    UploadEnd,
+    Came, CleanEnd, CompactEnd, NoAnswer, Outcome, QueryOutcome, Stop, SyncOutcome, UploadEnd,
 };
 pub use call_verdicts::{InputRefusal, Run, SinkFault, Status, Verdict, read_all, write_all};
 pub use laws::{

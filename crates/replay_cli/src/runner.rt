@@ -11,7 +11,7 @@ use base::NoMemory;
 use bucket_core::Bucket;
 use call_verdicts::Verdict;
 use call_verdicts::report_lines::{Lines, LinesBy, SeriesWay, put_breach_of};
-use call_verdicts::script_running::{Broken, ShelfBlock, run_beside};
+use call_verdicts::script_running::{Broken, Lent, RunEnd, ShelfBlock, run_beside};
 use line_running::do_in_line;
 use phase_runner::Gate;
 use run_notes::Finished;
@@ -71,11 +71,10 @@ fn run_telling<B: Bucket + Send, G: Gate + Sync, T: Threads + Wait + Sync, W: Se
     ensures { HasRun beside B.told script.now shelf.now world
         result.0 result.1.world result.1.note }
 {
-    let mut report = LinesBy::new(alloc, way);
-    match run_beside(rt, alloc, script, shelf, world, gate, &mut report) {
-        Ok((end, closed)) => {
-            let came = with_wanted(end.came, closed.wanted_memory());
-            drop(end);
+    let lent = Lent { script, shelf };
+    match run_beside(rt, alloc, &lent, world, gate, LinesBy::new(alloc, way)) {
+        Ok((RunEnd { report, came }, closed)) => {
+            let came = with_wanted(came, closed.wanted_memory());
             let world = closed.world();
             let journal = world.journal();
             let verdict = verdict_of(alloc, script, journal.entries(), came, report.lines);

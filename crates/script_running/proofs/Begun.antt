@@ -10,67 +10,54 @@ use Rattle.script_workers.specs.declared.task.Task.{Task}
 use Rattle.script_workers.specs.declared.worker.Worker.{Worker}
 use Rattle.world_core.specs.Journals.{of_seat}
 use Rattle.lifecycle_core.specs.Conducts.{PhaseRun, TasksRun, WorkerRun, who_of}
-use Rattle.lifecycle_core.specs.Holdings.{Holding, Holdings, holding_of}
+use Rattle.lifecycle_core.specs.Holdings.{Holdings, holding_of}
 use Rattle.lifecycle_core.specs.Phases.{by_script, by_workers}
 use Rattle.lifecycle_core.specs.Setting.{Setting}
 use Rattle.lifecycle_core.specs.Tasks.{End}
 use Rattle.lifecycle_core.specs.Ways.{PhasesRun}
 use Rattle.lifecycle_core.proofs.phases.FirstPhases.{no_phase}
-use Rattle.script_running.specs.Begun.{AreLeft, WasBegun, WasKept, WereBegun, WereKept}
+use Rattle.script_running.specs.Begun.{AreLeft, Made, WasBegun, WasKept, WereBegun, WereKept, ends_in, kept_in, workers_in}
 use Rattle.script_running.specs.Cutting.{AreParts, Passed}
 
 abbrev Kept : Type 0
 Kept = ℕ × List Entry
 
--- the workers' seats are those of which entries were kept
-pub same_seats : (setting : Setting) (tasks : List Task) (before : Holdings) (workers : List Worker) (kept : List Kept) (ends : List (List End)) (lasts : List Holding) → WereKept setting tasks before workers kept ends lasts
-    → map (λ (k : Kept). k.0) kept ≡ map (λ (w : Worker). w.seat) workers
-same_seats setting tasks before [] [] [] [] were = refl
-same_seats setting tasks before [] [] [] (last ∷ lasts) were = absurd were
-same_seats setting tasks before [] [] (own ∷ ends) lasts were = absurd were
-same_seats setting tasks before [] (k ∷ kept) ends lasts were = absurd were
-same_seats setting tasks before (w ∷ workers) [] ends lasts were = absurd were
-same_seats setting tasks before (w ∷ workers) (k ∷ kept) [] lasts were = absurd were
-same_seats setting tasks before (w ∷ workers) (k ∷ kept) (own ∷ ends) [] were = absurd were
-same_seats setting tasks before (w ∷ workers) (k ∷ kept) (own ∷ ends) (last ∷ lasts) were = cons_same k.0 w.seat (map (λ (k : Kept). k.0) kept) (map (λ (w : Worker). w.seat) workers) (were.0).seat (same_seats setting tasks before workers kept ends lasts were.1)
+abbrev Leaves : Holdings → Made → Type 0
+Leaves after one = (gateway : ℕ) → one.worker.gateway ≡ Some gateway → after gateway ≡ one.last
 
-worker_runs : (setting : Setting) (tasks : List Task) (before after : Holdings) (made : List Entry) (worker : Worker) (kept : Kept) (ends : List End) (last : Holding) → WasKept setting tasks before worker kept ends last → kept.1 ≡ of_seat kept.0 made
-    → ((gateway : ℕ) → worker.gateway ≡ Some gateway → after gateway ≡ last) → WorkerRun (by_script setting) tasks before made after worker ends
-worker_runs setting tasks before after made worker kept ends last was is leaves = record {
+-- the workers' seats are those of which entries were kept
+pub same_seats : (setting : Setting) (tasks : List Task) (before : Holdings) (made : List Made) → WereKept setting tasks before made → map (λ (k : Kept). k.0) (kept_in made) ≡ map (λ (w : Worker). w.seat) (workers_in made)
+same_seats setting tasks before [] were = refl
+same_seats setting tasks before (one ∷ made) were = cons_same one.kept.0 one.worker.seat (map (λ (k : Kept). k.0) (kept_in made)) (map (λ (w : Worker). w.seat) (workers_in made)) (were.0).seat (same_seats setting tasks before made were.1)
+
+worker_runs : (setting : Setting) (tasks : List Task) (before after : Holdings) (entries : List Entry) (one : Made) → WasKept setting tasks before one → one.kept.1 ≡ of_seat one.kept.0 entries → Leaves after one
+    → WorkerRun (by_script setting) tasks before entries after one.worker one.ends
+worker_runs setting tasks before after entries one was is leaves = record {
   own = was.own;
   are = was.are;
-  last = last;
-  runs = subst (λ (es : List Entry). TasksRun (by_script setting) (who_of worker) made (holding_of before worker.gateway) was.own es ends last) (is ∙ ap (λ (seat : ℕ). of_seat seat made) was.seat) (was.run made);
+  last = one.last;
+  runs = subst (λ (es : List Entry). TasksRun (by_script setting) (who_of one.worker) entries (holding_of before one.worker.gateway) was.own es one.ends one.last) (is ∙ ap (λ (seat : ℕ). of_seat seat entries) was.seat) (was.run entries);
   leaves = leaves;
 }
 
-workers_run : (setting : Setting) (tasks : List Task) (before after : Holdings) (made : List Entry) (workers : List Worker) (kept : List Kept) (ends : List (List End)) (lasts : List Holding) → WereKept setting tasks before workers kept ends lasts
-    → AllByRecursion (λ (k : Kept). k.1 ≡ of_seat k.0 made) kept → AllZip (λ worker last. (gateway : ℕ) → worker.gateway ≡ Some gateway → after gateway ≡ last) workers lasts
-    → AllZip (WorkerRun (by_script setting) tasks before made after) workers ends
-workers_run setting tasks before after made [] [] [] [] were are left = tt
-workers_run setting tasks before after made [] [] [] (last ∷ lasts) were are left = absurd were
-workers_run setting tasks before after made [] [] (own ∷ ends) lasts were are left = absurd were
-workers_run setting tasks before after made [] (k ∷ kept) ends lasts were are left = absurd were
-workers_run setting tasks before after made (w ∷ workers) [] ends lasts were are left = absurd were
-workers_run setting tasks before after made (w ∷ workers) (k ∷ kept) [] lasts were are left = absurd were
-workers_run setting tasks before after made (w ∷ workers) (k ∷ kept) (own ∷ ends) [] were are left = absurd were
-workers_run setting tasks before after made (w ∷ workers) (k ∷ kept) (own ∷ ends) (last ∷ lasts) were are left = (
-  worker_runs setting tasks before after made w k own last were.0 are.0 left.0,
-  workers_run setting tasks before after made workers kept ends lasts were.1 are.1 left.1,
-)
+workers_run : (setting : Setting) (tasks : List Task) (before after : Holdings) (entries : List Entry) (made : List Made) → WereKept setting tasks before made → AllByRecursion (λ (k : Kept). k.1 ≡ of_seat k.0 entries) (kept_in made) → AllByRecursion (Leaves after) made
+    → AllZip (WorkerRun (by_script setting) tasks before entries after) (workers_in made) (ends_in made)
+workers_run setting tasks before after entries [] were are left = tt
+workers_run setting tasks before after entries (one ∷ made) were are left =
+    (worker_runs setting tasks before after entries one were.0 are.0 left.0, workers_run setting tasks before after entries made were.1 are.1 left.1)
 
 -- what was kept of the workers' seats is a run of the phase
-pub phase_runs : (setting : Setting) (number : ℕ) (phase : Phase) (before after : Holdings) (kept : List Kept) (ends : List (List End)) (lasts : List Holding) → WereKept setting phase.tasks before (workers_of setting.script number) kept ends lasts
-    → AreLeft before (workers_of setting.script number) lasts after → (made : List Entry) → All (λ e. Contains (map (λ (k : Kept). k.0) kept) e.seat) made → AllByRecursion (λ (k : Kept). k.1 ≡ of_seat k.0 made) kept
-    → PhaseRun (by_script setting) phase.tasks (workers_of setting.script number) before made ends after
-phase_runs setting number phase before after kept ends lasts were left made seats are =
-    let same = same_seats setting phase.tasks before (workers_of setting.script number) kept ends lasts were in
-    record {
-      seats = All-weaker (λ e. Contains (map (λ (w : Worker). w.seat) (workers_of setting.script number)) e.seat) (λ e. Contains (map (λ (w : Worker). w.seat) (workers_of setting.script number)) e.seat ⊎ ⊥) (λ e among. inl among) made
-          (subst (λ (ns : List ℕ). All (λ e. Contains ns e.seat) made) same seats);
-      runs = workers_run setting phase.tasks before after made (workers_of setting.script number) kept ends lasts were are left.own;
+pub phase_runs : (setting : Setting) (number : ℕ) (phase : Phase) (before after : Holdings) (made : List Made) → workers_in made ≡ workers_of setting.script number → WereKept setting phase.tasks before made → AreLeft before made after
+    → (entries : List Entry) → All (λ e. Contains (map (λ (k : Kept). k.0) (kept_in made)) e.seat) entries → AllByRecursion (λ (k : Kept). k.1 ≡ of_seat k.0 entries) (kept_in made)
+    → PhaseRun (by_script setting) phase.tasks (workers_of setting.script number) before entries (ends_in made) after
+phase_runs setting number phase before after made staff were left entries seats are =
+    let same = same_seats setting phase.tasks before made were in
+    subst (λ (ws : List Worker). PhaseRun (by_script setting) phase.tasks ws before entries (ends_in made) after) staff (record {
+      seats = All-weaker (λ e. Contains (map (λ (w : Worker). w.seat) (workers_in made)) e.seat) (λ e. Contains (map (λ (w : Worker). w.seat) (workers_in made)) e.seat ⊎ ⊥) (λ e among. inl among) entries
+          (subst (λ (ns : List ℕ). All (λ e. Contains ns e.seat) entries) same seats);
+      runs = workers_run setting phase.tasks before after entries made were are left.own;
       kept = left.others;
-    }
+    })
 
 -- the phases behind those that were begun were not
 pub phases_run : (setting : Setting) (number : ℕ) (before after : Holdings) (done left : List Phase) (passed : List Passed) (ends : List (List (List End))) (journal : List Entry) → WereBegun setting number before done passed ends after → AreParts passed journal

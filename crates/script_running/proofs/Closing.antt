@@ -10,12 +10,11 @@ use Rattle.world_core.specs.declared.entry.Entry.{Entry}
 use Rattle.world_turn.specs.Closing.{AllJoined, Closes}
 use Rattle.world_turn.specs.declared.view.View.{View as Known}
 use Rattle.script_core.specs.Lawful.{IsLawfulScript}
-use Rattle.script_core.specs.Workers.{workers_of}
 use Rattle.script_workers.specs.declared.phase.Phase.{Phase}
 use Rattle.script_workers.specs.declared.task.Task.{Task}
 use Rattle.script_workers.specs.declared.worker.Worker.{Worker}
 use Rattle.lifecycle_core.specs.Conducts.{AreDone, who_of}
-use Rattle.lifecycle_core.specs.Holdings.{Holding, Holdings, holding_of, none_held}
+use Rattle.lifecycle_core.specs.Holdings.{Holdings, holding_of, none_held}
 use Rattle.lifecycle_core.specs.Phases.{IsInTurn, IsRunOf, by_script, by_workers}
 use Rattle.lifecycle_core.specs.Setting.{Setting}
 use Rattle.lifecycle_core.specs.Tasks.{End}
@@ -23,13 +22,13 @@ use Rattle.lifecycle_core.specs.Ways.{AreFinished, AreInTurn, IsOperationDue, Ph
 use Rattle.lifecycle_core.proofs.phases.Fronts.{IsCutWell}
 use Rattle.lifecycle_core.proofs.phases.Turns.{none_turns, one_turns, turns_behind}
 use Rattle.lifecycle_core.proofs.phases.TaskRuns.{tasks_long}
-use Rattle.script_running.specs.Begun.{WasBegun}
+use Rattle.script_running.specs.Begun.{Made, WasBegun, ends_in, workers_in}
 use Rattle.script_running.specs.Beside.{CameSoFar, HasRunBeside, IsCutForMemory}
 use Rattle.script_running.specs.Cutting.{AreParts, KnowsPhases, Passed}
 use Rattle.script_running.specs.Ended.{HasEnded, HaveEnded}
 use Rattle.script_running.specs.Going.{HasBrokenOff, HasFinished, HasGone, HasIdled, HasSeenFull, HasStopped, IfFull}
 use Rattle.script_running.specs.Outcomes.{Outcome, PhasesCame}
-use Rattle.script_running.specs.Workers.{IsBrokenOff}
+use Rattle.script_running.specs.Workers.{IsBrokenOff, OwnRun}
 use Rattle.script_running.specs.declared.came.Broken.{Broken}
 use Rattle.script_running.specs.declared.came.Broken.TheVariants as broken
 use Rattle.script_running.specs.declared.sight.Sight.{Sight}
@@ -45,45 +44,31 @@ use Rattle.phase_runner.proofs.Refused.{full_more}
 same_lengths : (w : Worker) (workers : List Worker) (own : List End) (ends : List (List End)) → AreDone (w ∷ workers) (own ∷ ends) → (length w.tasks ≡ length own) × AreDone workers ends
 same_lengths w workers own ends done = cons_parts (length w.tasks) (length own) (map (λ (x : Worker). length x.tasks) workers) (map length ends) done
 
-one_short : (setting : Setting) (tasks : List Task) (before : Holdings) (front : List Entry) (w : Worker) (kept : ℕ × List Entry) (end : WorkerEnd) (own : List End) (last : Holding) → HasEnded setting tasks before front w kept end own last → end.came ≡ Err broken.Full → length own < length w.tasks
-one_short setting tasks before front w kept end own last h full =
-    let b = subst (IsBrokenOff setting (who_of w) w.seat (holding_of before w.gateway) (h.was).own kept.1 own) full h.cut in
+one_short : (setting : Setting) (tasks : List Task) (before : Holdings) (front : List Entry) (one : Made) (end : WorkerEnd) → HasEnded setting tasks before front one end → end.came ≡ Err broken.Full → length one.ends < length one.worker.tasks
+one_short setting tasks before front one end h full =
+    let b = subst (IsBrokenOff (OwnRun setting (who_of one.worker) (holding_of before one.worker.gateway) (h.was).own) (length (h.was).own) one.worker.seat one.kept.1 one.ends) full h.cut in
     let short = b.0 in
-    let long = tasks_long tasks w.tasks (h.was).own (h.was).are in
+    let long = tasks_long tasks one.worker.tasks (h.was).own (h.was).are in
     omega (arith, short, long)
 
-not_done : (setting : Setting) (tasks : List Task) (before : Holdings) (front : List Entry) (workers : List Worker) (kept : List (ℕ × List Entry)) (others : List WorkerEnd) (ends : List (List End)) (lasts : List Holding) (end : WorkerEnd)
-    → HaveEnded setting tasks before front workers kept others ends lasts → Contains others end → end.came ≡ Err broken.Full → AreDone workers ends → ⊥
-not_done setting tasks before front [] [] [] [] [] end have among full done = no_member end among
-not_done setting tasks before front [] [] [] [] (last ∷ lasts) end have among full done = have
-not_done setting tasks before front [] [] [] (x ∷ ends) lasts end have among full done = have
-not_done setting tasks before front [] [] (o ∷ others) ends lasts end have among full done = have
-not_done setting tasks before front [] (k ∷ kept) others ends lasts end have among full done = have
-not_done setting tasks before front (w ∷ workers) [] others ends lasts end have among full done = have
-not_done setting tasks before front (w ∷ workers) (k ∷ kept) [] ends lasts end have among full done = have
-not_done setting tasks before front (w ∷ workers) (k ∷ kept) (o ∷ others) [] lasts end have among full done = have
-not_done setting tasks before front (w ∷ workers) (k ∷ kept) (o ∷ others) (x ∷ ends) [] end have among full done = have
-not_done setting tasks before front (w ∷ workers) (k ∷ kept) (o ∷ others) (x ∷ ends) (last ∷ lasts) end have among full done =
-    let same = same_lengths w workers x ends done in elim (member_cases o end others among) [
-      | inl here ↦ let short = one_short setting tasks before front w k o x last have.0 (ap (λ (y : WorkerEnd). y.came) here ∙ full) in let long = same.0 in omega (arith, short, long)
-      | inr later ↦ not_done setting tasks before front workers kept others ends lasts end have.1 later full same.1
+not_done : (setting : Setting) (tasks : List Task) (before : Holdings) (front : List Entry) (made : List Made) (others : List WorkerEnd) (end : WorkerEnd)
+    → HaveEnded setting tasks before front made others → Contains others end → end.came ≡ Err broken.Full → AreDone (workers_in made) (ends_in made) → ⊥
+not_done setting tasks before front made [] end have among full done = no_member end among
+not_done setting tasks before front [] (o ∷ others) end have among full done = have
+not_done setting tasks before front (one ∷ made) (o ∷ others) end have among full done =
+    let same = same_lengths one.worker (workers_in made) one.ends (ends_in made) done in elim (member_cases o end others among) [
+      | inl here ↦ let short = one_short setting tasks before front one o have.0 (ap (λ (y : WorkerEnd). y.came) here ∙ full) in let long = same.0 in omega (arith, short, long)
+      | inr later ↦ not_done setting tasks before front made others end have.1 later full same.1
     ]
 
 -- a front of the root that a worker met is full
-met_full : (setting : Setting) (tasks : List Task) (before : Holdings) (front : List Entry) (workers : List Worker) (kept : List (ℕ × List Entry)) (others : List WorkerEnd) (ends : List (List End)) (lasts : List Holding) (end : WorkerEnd)
-    → HaveEnded setting tasks before front workers kept others ends lasts → Contains others end → end.came ≡ Err broken.Full → (seen : List Entry) × IsPrefix seen front × IsFull seen
-met_full setting tasks before front [] [] [] [] [] end have among full = absurd (no_member end among)
-met_full setting tasks before front [] [] [] [] (last ∷ lasts) end have among full = absurd have
-met_full setting tasks before front [] [] [] (x ∷ ends) lasts end have among full = absurd have
-met_full setting tasks before front [] [] (o ∷ others) ends lasts end have among full = absurd have
-met_full setting tasks before front [] (k ∷ kept) others ends lasts end have among full = absurd have
-met_full setting tasks before front (w ∷ workers) [] others ends lasts end have among full = absurd have
-met_full setting tasks before front (w ∷ workers) (k ∷ kept) [] ends lasts end have among full = absurd have
-met_full setting tasks before front (w ∷ workers) (k ∷ kept) (o ∷ others) [] lasts end have among full = absurd have
-met_full setting tasks before front (w ∷ workers) (k ∷ kept) (o ∷ others) (x ∷ ends) [] end have among full = absurd have
-met_full setting tasks before front (w ∷ workers) (k ∷ kept) (o ∷ others) (x ∷ ends) (last ∷ lasts) end have among full = elim (member_cases o end others among) [
+met_full : (setting : Setting) (tasks : List Task) (before : Holdings) (front : List Entry) (made : List Made) (others : List WorkerEnd) (end : WorkerEnd)
+    → HaveEnded setting tasks before front made others → Contains others end → end.came ≡ Err broken.Full → (seen : List Entry) × IsPrefix seen front × IsFull seen
+met_full setting tasks before front made [] end have among full = absurd (no_member end among)
+met_full setting tasks before front [] (o ∷ others) end have among full = absurd have
+met_full setting tasks before front (one ∷ made) (o ∷ others) end have among full = elim (member_cases o end others among) [
   | inl here ↦ (have.0).full (ap (λ (y : WorkerEnd). y.came) here ∙ full)
-  | inr later ↦ met_full setting tasks before front workers kept others ends lasts end have.1 later full
+  | inr later ↦ met_full setting tasks before front made others end have.1 later full
 ]
 
 middle : (done : List Phase) (phase : Phase) (left : List Phase) → slice_get (done ++ phase ∷ left) (length done) ≡ Some phase
@@ -137,13 +122,12 @@ module _ (setting : Setting) (well : IsCutWell (by_script setting)) (root : Know
     short_on : PhasesCame setting.script 0 done f.told outcomes → (ends : List (List End)) → IsCutForMemory setting (f.told ++ ends ∷ []) outcomes
     short_on came ends = record { done = done; next = phase; left = left; phases = is; told = f.told; begun = ends ∷ []; parts = refl; few = omega arith; finished = f.finished; came = came }
 
-    far_on : (why : Broken) → PhasesCame setting.script 0 done f.told outcomes → (b : HasBrokenOff setting root done passed held phase why) → IsRunOf setting journal (f.told ++ b.ends ∷ []) → CameSoFar setting journal (f.told ++ b.ends ∷ []) outcomes (Err why)
-    far_on broken.NoMemory came b run = short_on came b.ends
+    far_on : (why : Broken) → PhasesCame setting.script 0 done f.told outcomes → (b : HasBrokenOff setting root done passed held phase why) → IsRunOf setting journal (f.told ++ ends_in b.made ∷ []) → CameSoFar setting journal (f.told ++ ends_in b.made ∷ []) outcomes (Err why)
+    far_on broken.NoMemory came b run = short_on came (ends_in b.made)
     far_on broken.Full came b run =
-        let ws = workers_of setting.script (length done) in
-        let seen = met_full setting phase.tasks held root.front ws b.one.kept b.others b.ends b.lasts b.met.0 b.have b.met.1 b.met.2 in
+        let seen = met_full setting phase.tasks held root.front b.made b.others b.met.0 b.have b.met.1 b.met.2 in
         let due = subst (λ (ps : List Phase). IsOperationDue (by_workers setting) none_held ps journal f.told) (sym is)
-        (is_due setting well held done left phase passed b.one f.told root.front b.seat b.others b.ends b.lasts b.met.0 journal f.begun b.begins b.have b.row b.met.1 b.met.2 (cut (passed ++ b.one ∷ []) b.knows)) in
+        (is_due setting well held done left phase passed b.one f.told root.front b.seat b.made b.others b.met.0 journal f.begun b.begins b.workers b.kept b.have b.row b.met.1 b.met.2 (cut (passed ++ b.one ∷ []) b.knows)) in
         record {
           full = full_more seen.0 journal (subst (IsPrefix seen.0) closes.front seen.1) seen.2;
           done = done;
@@ -152,10 +136,10 @@ module _ (setting : Setting) (well : IsCutWell (by_script setting)) (root : Know
             left = phase ∷ left;
             phases = is;
             more = λ none. absurd (cc (none));
-            untold = b.ends ∷ [];
+            untold = ends_in b.made ∷ [];
             run = run;
             finished = f.finished;
-            unfinished = (not_done setting phase.tasks held root.front ws b.one.kept b.others b.ends b.lasts b.met.0 b.have b.met.1 b.met.2, refl);
+            unfinished = ((λ all. not_done setting phase.tasks held root.front b.made b.others b.met.0 b.have b.met.1 b.met.2 (subst (λ (ws : List Worker). AreDone ws (ends_in b.made)) (sym b.workers) all)), refl);
             due = λ begun. due;
           };
           parts = refl;
@@ -164,14 +148,13 @@ module _ (setting : Setting) (well : IsCutWell (by_script setting)) (root : Know
 
     ran_on : (why : Broken) → PhasesCame setting.script 0 done f.told outcomes → HasBrokenOff setting root done passed held phase why → HasRunBeside setting journal outcomes (Err why)
     ran_on why came b =
-        let ws = workers_of setting.script (length done) in
-        let were = were_kept setting phase.tasks held root.front ws b.one.kept b.others b.ends b.lasts b.have in
-        let next = was_begun setting well (length done) phase held b.one b.ends b.lasts b.begins were.0 were.1 in
-        let run = run_on done phase left passed held next.0 b.one b.ends is f next.2 b.knows in
+        let were = were_kept setting phase.tasks held root.front b.made b.others b.have in
+        let next = was_begun setting well (length done) phase held b.one b.made b.workers b.kept b.begins were in
+        let run = run_on done phase left passed held next.0 b.one (ends_in b.made) is f next.2 b.knows in
         record {
-          ends = f.told ++ b.ends ∷ [];
+          ends = f.told ++ ends_in b.made ∷ [];
           run = run;
-          turns = turns_on done phase left f.told b.ends is f.finished;
+          turns = turns_on done phase left f.told (ends_in b.made) is f.finished;
           far = far_on why came b run;
         }
 

@@ -4,6 +4,8 @@ use denote.Ref.{NamedLft}
 use denote.Param.Send.{IsSend, IsSync, sendable}
 use Rattle.std.proofs.Crossing.{crosses}
 use Rattle.std.proofs.MapsCrossing.{crosses as maps_cross}
+use Rattle.bytes.proofs.block.Block.TheSendSync as block
+use Rattle.bytes.proofs.block.Seen.TheSendSync as seen
 use Rattle.lru.proofs.list.List.TheSendSync as nodes
 use Rattle.lru.proofs.entry.Deed.TheSendSync as deed
 use Rattle.lru.proofs.key_ref.KeyRef.TheSendSync as key
@@ -23,11 +25,17 @@ use Rattle.script_running.specs.contracts.worker.WorkerJob as WorkerJob
 use Rattle.script_running.specs.contracts.shelf.ShelfBlock as ShelfBlock
 use Rattle.script_running.specs.contracts.shelf.ShelfFound as ShelfFound
 
-kept_sync : IsSync Kept.the_row
-kept_sync = search (sendable, crosses) depth 24
+kept_sent : IsSend (Kept.the_field).row
+kept_sent = search (sendable, crosses, block.the_send, block.the_sync, seen.the_send) depth 40 fits 40000
+
+blob_send : IsSend Blob.the_row
+blob_send = let kept = kept_sent in search (sendable, crosses) depth 24
+
+blob_sent : IsSend (Blob.the_field).row
+blob_sent = let blob = blob_send in search (sendable, crosses) depth 24
 
 kept_field : IsSync (Kept.the_field).row
-kept_field = let kept = kept_sync in search (sendable, crosses) depth 24
+kept_field = search (sendable, crosses, block.the_send, block.the_sync, seen.the_sync) depth 40 fits 40000
 
 blob_sync : IsSync Blob.the_row
 blob_sync = let kept = kept_field in search (sendable, crosses) depth 24
@@ -42,7 +50,7 @@ found_sync : IsSync ShelfFound.the_row
 found_sync = let object = object_field in search (sendable, crosses) depth 24
 
 found_field : IsSync (ShelfFound.the_field).row
-found_field = let found = found_sync in search (sendable, crosses) depth 24
+found_field = let object = object_field in search (sendable, crosses) depth 40 fits 40000
 
 shelf_sync : IsSync ShelfBlock.the_row
 shelf_sync = let found = found_sync in let field = found_field in search (sendable, crosses) depth 40
@@ -72,7 +80,7 @@ view_field : IsSend (View.the_field).row
 view_field = let found = found_list in search (sendable, crosses) depth 60 fits 40000
 
 cache_field : IsSend (IndexCache.the_field).row
-cache_field = search (sendable, crosses, maps_cross, nodes.the_send, deed.the_send, key.the_send) depth 60 fits 40000
+cache_field = let blob = blob_sent in search (sendable, crosses, maps_cross, nodes.the_send, deed.the_send, key.the_send) depth 60 fits 40000
 
 sight_field : IsSend (Sight.the_field).row
 sight_field = let view = view_field in let cache = cache_field in search (sendable, crosses) depth 60 fits 40000

@@ -1,5 +1,5 @@
 -- The workers of a phase that was run have made the runs of their tasks.
-use Rattle.std.proofs.Common.{◌≡◌, ℕ, suc, ◌+◌, ◌<◌, List, [], ◌∷◌, length, map, Contains, Some, refl, sym, ◌∙◌, ap, subst, arith}
+use Rattle.std.proofs.Common.{◌≡◌, ◌≢◌, ℕ, suc, ◌+◌, ◌<◌, List, [], ◌∷◌, length, map, Contains, Some, refl, sym, ◌∙◌, ap, subst, arith}
 use Rattle.std.specs.Prelude.{slice_get}
 use Rattle.std.specs.List.{All, AllByRecursion, AllZip}
 use Rattle.std.proofs.lemmas.List.{length-map}
@@ -29,7 +29,7 @@ use Rattle.lifecycle_core.specs.Ways.{BeginsPhase}
 use Rattle.lifecycle_core.proofs.phases.Fronts.{IsCutWell}
 use Rattle.lifecycle_core.proofs.phases.RunsInLine.{lawful_tasks, may_begin}
 use Rattle.lifecycle_core.proofs.phases.TaskRuns.{MayBegin}
-use Rattle.script_running.specs.Begun.{AreLeft, WasBegun, WereKept}
+use Rattle.script_running.specs.Begun.{AreLeft, Made, WasBegun, WereKept, ends_in, kept_in, workers_in}
 use Rattle.script_running.specs.Cutting.{Passed}
 use Rattle.script_running.specs.Ended.{AreInRow, HasEnded, HaveEnded, IsPostOf}
 use Rattle.script_running.specs.Lending.{Loan, setting_in}
@@ -58,9 +58,10 @@ module _ (script : Script) (shelf : List ShelfBlock) (loan : Loan) (lent : loan.
       (may.worked phase (holding_of before worker.gateway) found p.sees))))
 
   has_ended : (worker : Worker) (post : Post) (seat : ℕ) (kept : Kept) (end : WorkerEnd) → worker.seat ≡ seat → IsPostOf loan number before worker post → RanTo MayWork above front seat post end kept
-      → (ends : List End) × (last : Holding) × HasEnded own_setting phase.tasks before front worker kept end ends last
+      → (ends : List End) × (last : Holding) × HasEnded own_setting phase.tasks before front (record { worker = worker; kept = kept; ends = ends; last = last }) end
   has_ended worker post seat kept end sits p ran =
-      let w = has_worked worker post seat kept.1 ran.seen end p ran.run in (
+      let w = has_worked worker post seat kept.1 ran.seen end p ran.run in
+      let run : List Entry → List End → Holding → Type 0 = OwnRun own_setting (who_of worker) (holding_of before worker.gateway) w.own in (
         w.ends,
         w.last,
         record {
@@ -68,19 +69,18 @@ module _ (script : Script) (shelf : List ShelfBlock) (loan : Loan) (lent : loan.
             seat = ran.seated ∙ sym sits;
             own = w.own;
             are = w.are;
-            run = subst (λ (es : List Entry). OwnRun own_setting (who_of worker) (holding_of before worker.gateway) w.own es w.ends w.last) (sym w.entries) w.run;
+            run = subst (λ (es : List Entry). run es w.ends w.last) (sym w.entries) w.run;
           };
           parts = w.parts;
           sees = w.sees;
-          cut = subst (λ (s : ℕ). IsBrokenOff own_setting (who_of worker) s (holding_of before worker.gateway) w.own kept.1 w.ends end.came) (sym sits)
-              (subst (λ (es : List Entry). IsBrokenOff own_setting (who_of worker) seat (holding_of before worker.gateway) w.own es w.ends end.came) (sym w.entries) w.broken);
+          cut = subst (λ (s : ℕ). IsBrokenOff run (length w.own) s kept.1 w.ends end.came) (sym sits) (subst (λ (es : List Entry). IsBrokenOff run (length w.own) seat es w.ends end.came) (sym w.entries) w.broken);
           full = λ came. (ran.seen, ran.within, ran.run.full came);
         },
       )
 
   pub have_ended : (seat : ℕ) (workers : List Worker) (posts : List Post) (others : List WorkerEnd) (kept : List Kept) → AllZip (IsPostOf loan number before) workers posts → AreInRow seat workers → Runs MayWork above front seat posts others kept
-      → (ends : List (List End)) × (lasts : List Holding) × HaveEnded own_setting phase.tasks before front workers kept others ends lasts
-  have_ended seat [] [] [] [] posts row runs = ([], [], tt)
+      → (made : List Made) × (workers_in made ≡ workers) × (kept_in made ≡ kept) × HaveEnded own_setting phase.tasks before front made others
+  have_ended seat [] [] [] [] posts row runs = ([], refl, refl, tt)
   have_ended seat [] [] [] (k ∷ kept) posts row runs = absurd runs
   have_ended seat [] [] (end ∷ others) kept posts row runs = absurd runs
   have_ended seat [] (p ∷ ps) others kept posts row runs = absurd posts
@@ -90,43 +90,58 @@ module _ (script : Script) (shelf : List ShelfBlock) (loan : Loan) (lent : loan.
   have_ended seat (w ∷ workers) (p ∷ ps) (end ∷ others) (k ∷ kept) posts row runs =
       let first = has_ended w p seat k end row.0 posts.0 runs.0 in
       let rest = have_ended (seat + 1) workers ps others kept posts.1 row.1 runs.1 in
-      (first.0 ∷ rest.0, first.1 ∷ rest.1, (first.2, rest.2))
+      (record { worker = w; kept = k; ends = first.0; last = first.1 } ∷ rest.0, ap (λ (ws : List Worker). w ∷ ws) rest.1, ap (λ (ks : List Kept). k ∷ ks) rest.2, (first.2, rest.3))
 
 -- ---- the phase as a whole
 
-pub were_kept : (setting : Setting) (tasks : List Task) (before : Holdings) (front : List Entry) (workers : List Worker) (kept : List Kept) (others : List WorkerEnd) (ends : List (List End)) (lasts : List Holding) → HaveEnded setting tasks before front workers kept others ends lasts
-    → WereKept setting tasks before workers kept ends lasts × (length lasts ≡ length workers)
-were_kept setting tasks before front [] [] [] [] [] have = (tt, refl)
-were_kept setting tasks before front [] [] [] [] (last ∷ lasts) have = absurd have
-were_kept setting tasks before front [] [] [] (own ∷ ends) lasts have = absurd have
-were_kept setting tasks before front [] [] (end ∷ others) ends lasts have = absurd have
-were_kept setting tasks before front [] (k ∷ kept) others ends lasts have = absurd have
-were_kept setting tasks before front (w ∷ workers) [] others ends lasts have = absurd have
-were_kept setting tasks before front (w ∷ workers) (k ∷ kept) [] ends lasts have = absurd have
-were_kept setting tasks before front (w ∷ workers) (k ∷ kept) (end ∷ others) [] lasts have = absurd have
-were_kept setting tasks before front (w ∷ workers) (k ∷ kept) (end ∷ others) (own ∷ ends) [] have = absurd have
-were_kept setting tasks before front (w ∷ workers) (k ∷ kept) (end ∷ others) (own ∷ ends) (last ∷ lasts) have =
-    let rest = were_kept setting tasks before front workers kept others ends lasts have.1 in (((have.0).was, rest.0), ap suc rest.1)
+pub were_kept : (setting : Setting) (tasks : List Task) (before : Holdings) (front : List Entry) (made : List Made) (others : List WorkerEnd) → HaveEnded setting tasks before front made others → WereKept setting tasks before made
+were_kept setting tasks before front [] others have = tt
+were_kept setting tasks before front (one ∷ made) [] have = absurd have
+were_kept setting tasks before front (one ∷ made) (end ∷ others) have = ((have.0).was, were_kept setting tasks before front made others have.1)
+
+-- what each worker leaves
+abbrev LeavesTo : Holdings → Worker → Holding → Type 0
+LeavesTo after worker last = (gateway : ℕ) → worker.gateway ≡ Some gateway → after gateway ≡ last
+
+each_leaves : (after : Holdings) (made : List Made) → AllZip (LeavesTo after) (workers_in made) (map (λ (one : Made). one.last) made) → AllByRecursion (λ (one : Made). LeavesTo after one.worker one.last) made
+each_leaves after [] all = tt
+each_leaves after (one ∷ made) all = (all.0, each_leaves after made all.1)
 
 -- whatever workers hold last, there are holdings after the phase
-pub was_begun : (setting : Setting) → IsCutWell (by_script setting) → (number : ℕ) (phase : Phase) (before : Holdings) (one : Passed) (ends : List (List End)) (lasts : List Holding) → BeginsPhase phase one.clock
-    → WereKept setting phase.tasks before (workers_of setting.script number) one.kept ends lasts → length lasts ≡ length (workers_of setting.script number)
-    → (after : Holdings) × AreLeft before (workers_of setting.script number) lasts after × WasBegun setting number phase before one ends after
-was_begun setting well number phase before one ends lasts begins were long =
-    let joins = well.joins number before lasts long in
-    let left : AreLeft before (workers_of setting.script number) lasts joins.0 = record { own = joins.1; others = joins.2 } in
-    (joins.0, left, record { begins = begins; runs = phase_runs setting number phase before joins.0 one.kept ends lasts were left })
+are_left : (setting : Setting) → IsCutWell (by_script setting) → (number : ℕ) (before : Holdings) (made : List Made) → workers_in made ≡ workers_of setting.script number → (after : Holdings) × AreLeft before made after
+are_left setting well number before made staff =
+    let lasts = map (λ (one : Made). one.last) made in
+    let long : length lasts ≡ length (workers_of setting.script number) = length-map made (λ (one : Made). one.last) ∙ sym (length-map made (λ (one : Made). one.worker)) ∙ ap length staff in
+    let joins = well.joins number before lasts long in (
+      joins.0,
+      record {
+        own = each_leaves joins.0 made (subst (λ (ws : List Worker). AllZip (LeavesTo joins.0) ws lasts) (sym staff) joins.1);
+        others = λ gateway none. joins.2 gateway (subst (All (λ (w : Worker). w.gateway ≢ Some gateway)) staff none);
+      },
+    )
+
+pub was_begun : (setting : Setting) → IsCutWell (by_script setting) → (number : ℕ) (phase : Phase) (before : Holdings) (one : Passed) (made : List Made) → workers_in made ≡ workers_of setting.script number → kept_in made ≡ one.kept → BeginsPhase phase one.clock
+    → WereKept setting phase.tasks before made → (after : Holdings) × AreLeft before made after × WasBegun setting number phase before one (ends_in made) after
+was_begun setting well number phase before one made staff kept begins were =
+    let left = are_left setting well number before made staff in (
+      left.0,
+      left.1,
+      record {
+        begins = begins;
+        runs = subst (λ (ks : List Kept). (entries : List Entry) → All (λ e. Contains (map (λ (k : Kept). k.0) ks) e.seat) entries → AllByRecursion (λ (k : Kept). k.1 ≡ of_seat k.0 entries) ks
+            → PhaseRun (by_script setting) phase.tasks (workers_of setting.script number) before entries (ends_in made) left.0) kept (phase_runs setting number phase before left.0 made staff were left.1);
+      },
+    )
 
 -- ---- a phase whose workers did not begin
 
-abbrev none_of : Worker → Kept
-none_of w = (w.seat, [])
+abbrev none_by : Holdings → Worker → Made
+none_by before w = record { worker = w; kept = (w.seat, []); ends = []; last = holding_of before w.gateway }
 
 abbrev Within : List Task → Worker → Type 0
 Within tasks w = All (λ place. place < length tasks) w.tasks
 
-were_idle : (setting : Setting) (tasks : List Task) (before : Holdings) → All (λ t. MayBegin setting t.work) tasks → (ws : List Worker) → AllByRecursion (Within tasks) ws
-    → WereKept setting tasks before ws (map none_of ws) (map (λ (w : Worker). []) ws) (map (λ (w : Worker). holding_of before w.gateway) ws)
+were_idle : (setting : Setting) (tasks : List Task) (before : Holdings) → All (λ t. MayBegin setting t.work) tasks → (ws : List Worker) → AllByRecursion (Within tasks) ws → WereKept setting tasks before (map (none_by before) ws)
 were_idle setting tasks before begin [] within = tt
 were_idle setting tasks before begin (w ∷ ws) within =
     let own = assigned tasks w.tasks within.0 in (
@@ -134,9 +149,13 @@ were_idle setting tasks before begin (w ∷ ws) within =
       were_idle setting tasks before begin ws within.1,
     )
 
-idle_own : (ws : List Worker) → AllByRecursion (λ (k : Kept). k.1 ≡ of_seat k.0 []) (map none_of ws)
-idle_own [] = tt
-idle_own (w ∷ ws) = (refl, idle_own ws)
+idle_workers : (before : Holdings) (ws : List Worker) → workers_in (map (none_by before) ws) ≡ ws
+idle_workers before [] = refl
+idle_workers before (w ∷ ws) = ap (λ (l : List Worker). w ∷ l) (idle_workers before ws)
+
+idle_own : (before : Holdings) (ws : List Worker) → AllByRecursion (λ (k : Kept). k.1 ≡ of_seat k.0 []) (kept_in (map (none_by before) ws))
+idle_own before [] = tt
+idle_own before (w ∷ ws) = (refl, idle_own before ws)
 
 are_within : (gateways : ℕ) (tasks : List Task) (taken : ℕ) (hs : List Hand) (ws : List Worker) → length ws ≡ length hs
     → ((place : ℕ) (h : Hand) (w : Worker) → slice_get hs place ≡ Some h → slice_get ws place ≡ Some w → (number : ℕ) × IsWorkerOf gateways tasks h number w) → AllByRecursion (Within tasks) ws
@@ -166,10 +185,12 @@ was_idle setting well lawful number phase before one at begins none =
     let gateways = gateway_count setting.script.gateways in
     let s = are_seated setting.script number phase lawful at in
     let within = are_within gateways phase.tasks (length (workers_before setting.script number)) (hands_of gateways phase.tasks) ws s.count (λ place h w here there. (length (workers_before setting.script number) + place + 1, s.each place h w here there)) in
+    let made = map (none_by before) ws in
     let were = were_idle setting phase.tasks before (may_begin setting phase.tasks lawful (lawful_tasks setting number phase lawful at)) ws within in
-    let joins = well.joins number before (map (λ (w : Worker). holding_of before w.gateway) ws) (length-map ws (λ (w : Worker). holding_of before w.gateway)) in
-    let run = phase_runs setting number phase before joins.0 (map none_of ws) (map (λ (w : Worker). []) ws) (map (λ (w : Worker). holding_of before w.gateway) ws) were (record { own = joins.1; others = joins.2 }) in (
-      map (λ (w : Worker). []) ws,
-      joins.0,
-      record { begins = begins; runs = λ made seats are. idle_run setting number phase before joins.0 (map none_of ws) (map (λ (w : Worker). []) ws) made run (idle_own ws) (nobody_made made (subst (λ (ks : List Kept). All (λ (e : Entry). Contains (map (λ (k : Kept). k.0) ks) e.seat) made) none seats)) },
+    let staff = idle_workers before ws in
+    let left = are_left setting well number before made staff in
+    let run = phase_runs setting number phase before left.0 made staff were left.1 in (
+      ends_in made,
+      left.0,
+      record { begins = begins; runs = λ entries seats are. idle_run setting number phase before left.0 (kept_in made) (ends_in made) entries run (idle_own before ws) (nobody_made entries (subst (λ (ks : List Kept). All (λ (e : Entry). Contains (map (λ (k : Kept). k.0) ks) e.seat) entries) none seats)) },
     )

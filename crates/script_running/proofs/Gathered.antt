@@ -25,7 +25,7 @@ use Rattle.lifecycle_core.specs.Holdings.{Holding, Holdings, holding_of}
 use Rattle.lifecycle_core.specs.Setting.{Setting}
 use Rattle.lifecycle_core.specs.Tasks.{End}
 use Rattle.lifecycle_core.proofs.phases.TaskRuns.{tasks_long}
-use Rattle.script_running.specs.Begun.{AreLeft}
+use Rattle.script_running.specs.Begun.{AreLeft, Made, ends_in, workers_in}
 use Rattle.script_running.specs.Beside.{AreSeen}
 use Rattle.script_running.specs.Ended.{HasEnded, HaveEnded}
 use Rattle.script_running.specs.Gathering.{AreSeenBeside, AreTakenIn, AreTold, IsFilled, IsToldBy, laid_in, parts_at, slot_at}
@@ -34,7 +34,7 @@ use Rattle.script_running.proofs.AllParts.{all_parts}
 use Rattle.script_running.specs.Sights.{Sees}
 use Rattle.script_running.specs.Tasks.{WhenDone}
 use Rattle.script_running.specs.declared.came.Broken.{Broken}
-use Rattle.script_running.specs.Workers.{AreParts, IsBrokenOff}
+use Rattle.script_running.specs.Workers.{AreParts, IsBrokenOff, OwnRun}
 use Rattle.script_running.specs.declared.gathering.Slots.{Slots}
 use Rattle.script_running.specs.declared.sight.Sight.{Sight}
 use Rattle.script_running.specs.declared.worker.WorkerEnd.{WorkerEnd}
@@ -87,64 +87,55 @@ part_at tasks (p ∷ places) (a ∷ own) (end ∷ ends) (x ∷ os) place o are o
 
 -- ---- the workers of a phase
 
+-- what a worker made is among what all made
+made_among : (made : List Made) (one : Made) → Contains made one → Contains (zip (workers_in made) (ends_in made)) (one.worker, one.ends)
+made_among [] one among = absurd (no_member one among)
+made_among (x ∷ made) one among = elim (member_cases x one made among) [
+  | inl same ↦ subst (λ (y : Made). Contains ((x.worker, x.ends) ∷ zip (workers_in made) (ends_in made)) (y.worker, y.ends)) same (contains_first (x.worker, x.ends) (zip (workers_in made) (ends_in made)))
+  | inr later ↦ contains_later (x.worker, x.ends) (one.worker, one.ends) (zip (workers_in made) (ends_in made)) (made_among made one later)
+]
+
 module _ (setting : Setting) (tasks : List Task) (before : Holdings) (front : List Entry) (after : Holdings) where
-  -- a worker and what it came back with
-  record Comes (workers : List Worker) (ends : List (List End)) (w : Worker) (e : WorkerEnd) : Type 0 where
-    kept : ℕ × List Entry
-    own : List End
-    last : Holding
-    among : Contains (zip workers ends) (w, own)
-    has : HasEnded setting tasks before front w kept e own last
-    left : (gateway : ℕ) → w.gateway ≡ Some gateway → after gateway ≡ last
+  -- what a worker made that came back with this
+  record Comes (made : List Made) (w : Worker) (e : WorkerEnd) : Type 0 where
+    one : Made
+    among : Contains made one
+    is : one.worker ≡ w
+    has : HasEnded setting tasks before front one e
+    left : (gateway : ℕ) → one.worker.gateway ≡ Some gateway → after gateway ≡ one.last
 
-  comes_later : (x : Worker) (workers : List Worker) (own : List End) (ends : List (List End)) (w : Worker) (e : WorkerEnd) → Comes workers ends w e → Comes (x ∷ workers) (own ∷ ends) w e
-  comes_later x workers own ends w e c = record { kept = c.kept; own = c.own; last = c.last; among = contains_later (x, own) (w, c.own) (zip workers ends) c.among; has = c.has; left = c.left }
-
-  abbrev Leaves : Worker → Holding → Type 0
-  Leaves w last = (gateway : ℕ) → w.gateway ≡ Some gateway → after gateway ≡ last
-
-  comes : (workers : List Worker) (kept : List (ℕ × List Entry)) (others : List WorkerEnd) (ends : List (List End)) (lasts : List Holding) (w : Worker) (e : WorkerEnd)
-      → HaveEnded setting tasks before front workers kept others ends lasts → AllZip Leaves workers lasts → Contains (zip workers others) (w, e) → Comes workers ends w e
-  comes [] kept others ends lasts w e have left among = absurd (no_member (w, e) among)
-  comes (x ∷ workers) kept [] ends lasts w e have left among = absurd (no_member (w, e) among)
-  comes (x ∷ workers) [] (y ∷ others) ends lasts w e have left among = absurd have
-  comes (x ∷ workers) (k ∷ kept) (y ∷ others) [] lasts w e have left among = absurd have
-  comes (x ∷ workers) (k ∷ kept) (y ∷ others) (own ∷ ends) [] w e have left among = absurd have
-  comes (x ∷ workers) (k ∷ kept) (y ∷ others) (own ∷ ends) (last ∷ lasts) w e have left among = elim (member_cases (x, y) (w, e) (zip workers others) among) [
+  comes : (made : List Made) (others : List WorkerEnd) (w : Worker) (e : WorkerEnd)
+      → HaveEnded setting tasks before front made others → AllByRecursion (λ (one : Made). (gateway : ℕ) → one.worker.gateway ≡ Some gateway → after gateway ≡ one.last) made → Contains (zip (workers_in made) others) (w, e) → Comes made w e
+  comes [] others w e have left among = absurd (no_member (w, e) among)
+  comes (x ∷ made) [] w e have left among = absurd (no_member (w, e) among)
+  comes (x ∷ made) (y ∷ others) w e have left among = elim (member_cases (x.worker, y) (w, e) (zip (workers_in made) others) among) [
     | inl same ↦
-        let sw : x ≡ w = ap (λ (r : Worker × WorkerEnd). r.0) same in
         let se : y ≡ e = ap (λ (r : Worker × WorkerEnd). r.1) same in
-        subst (λ (v : Worker). Comes (x ∷ workers) (own ∷ ends) v e) sw (subst (λ (z : WorkerEnd). Comes (x ∷ workers) (own ∷ ends) x z) se (record {
-          kept = k;
-          own = own;
-          last = last;
-          among = contains_first (x, own) (zip workers ends);
-          has = have.0;
+        record {
+          one = x;
+          among = contains_first x made;
+          is = ap (λ (r : Worker × WorkerEnd). r.0) same;
+          has = subst (λ (z : WorkerEnd). HasEnded setting tasks before front x z) se have.0;
           left = left.0;
-        }))
-    | inr later ↦ comes_later x workers own ends w e (comes workers kept others ends lasts w e have.1 left.1 later)
+        }
+    | inr later ↦
+        let c = comes made others w e have.1 left.1 later in
+        record { one = c.one; among = contains_later x c.one made c.among; is = c.is; has = c.has; left = c.left }
   ]
 
-  one_done : (w : Worker) (kept : ℕ × List Entry) (e : WorkerEnd) (own : List End) (last : Holding) → HasEnded setting tasks before front w kept e own last → e.came ≡ Ok tt → (length w.tasks ≡ length own) × (length w.tasks ≡ length e.parts.items)
-  one_done w kept e own last h done =
-      let count : length own ≡ length (h.was).own = subst (IsBrokenOff setting (who_of w) w.seat (holding_of before w.gateway) (h.was).own kept.1 own) done h.cut in
-      let first : length w.tasks ≡ length own = sym (count ∙ tasks_long tasks w.tasks (h.was).own (h.was).are) in
-      (first, first ∙ sym (parts_long (h.was).own own e.parts.items h.parts))
+  one_done : (one : Made) (e : WorkerEnd) → HasEnded setting tasks before front one e → e.came ≡ Ok tt → (length one.worker.tasks ≡ length one.ends) × (length one.worker.tasks ≡ length e.parts.items)
+  one_done one e h done =
+      let count : length one.ends ≡ length (h.was).own = subst (IsBrokenOff (OwnRun setting (who_of one.worker) (holding_of before one.worker.gateway) (h.was).own) (length (h.was).own) one.worker.seat one.kept.1 one.ends) done h.cut in
+      let first : length one.worker.tasks ≡ length one.ends = sym (count ∙ tasks_long tasks one.worker.tasks (h.was).own (h.was).are) in
+      (first, first ∙ sym (parts_long (h.was).own one.ends e.parts.items h.parts))
 
-  are_done : (workers : List Worker) (kept : List (ℕ × List Entry)) (others : List WorkerEnd) (ends : List (List End)) (lasts : List Holding) → HaveEnded setting tasks before front workers kept others ends lasts → All (λ (e : WorkerEnd). e.came ≡ Ok tt) others
-      → AreDone workers ends × (length workers ≡ length others)
-  are_done [] [] [] [] [] have done = (refl, refl)
-  are_done [] [] [] [] (last ∷ lasts) have done = absurd have
-  are_done [] [] [] (own ∷ ends) lasts have done = absurd have
-  are_done [] [] (e ∷ others) ends lasts have done = absurd have
-  are_done [] (k ∷ kept) others ends lasts have done = absurd have
-  are_done (w ∷ workers) [] others ends lasts have done = absurd have
-  are_done (w ∷ workers) (k ∷ kept) [] ends lasts have done = absurd have
-  are_done (w ∷ workers) (k ∷ kept) (e ∷ others) [] lasts have done = absurd have
-  are_done (w ∷ workers) (k ∷ kept) (e ∷ others) (own ∷ ends) [] have done = absurd have
-  are_done (w ∷ workers) (k ∷ kept) (e ∷ others) (own ∷ ends) (last ∷ lasts) have done =
-      let rest = are_done workers kept others ends lasts have.1 (All-tail (λ (x : WorkerEnd). x.came ≡ Ok tt) e others done) in (
-        cons_same (length w.tasks) (length own) (map (λ (x : Worker). length x.tasks) workers) (map length ends) (one_done w k e own last have.0 (All-head (λ (x : WorkerEnd). x.came ≡ Ok tt) e others done)).0 rest.0,
+  are_done : (made : List Made) (others : List WorkerEnd) → HaveEnded setting tasks before front made others → All (λ (e : WorkerEnd). e.came ≡ Ok tt) others → AreDone (workers_in made) (ends_in made) × (length (workers_in made) ≡ length others)
+  are_done [] [] have done = (refl, refl)
+  are_done [] (e ∷ others) have done = absurd have
+  are_done (one ∷ made) [] have done = absurd have
+  are_done (one ∷ made) (e ∷ others) have done =
+      let rest = are_done made others have.1 (All-tail (λ (x : WorkerEnd). x.came ≡ Ok tt) e others done) in (
+        cons_same (length one.worker.tasks) (length one.ends) (map (λ (x : Worker). length x.tasks) (workers_in made)) (map length (ends_in made)) (one_done one e have.0 (All-head (λ (x : WorkerEnd). x.came ≡ Ok tt) e others done)).0 rest.0,
         ap suc rest.1,
       )
 
@@ -174,17 +165,22 @@ seen_by : (last : Holding) (end : WorkerEnd) → end.came ≡ Ok tt → WhenDone
 seen_by last end done sees = subst (λ (r : Result (Unit {0}) Broken). WhenDone r (Sees last end.sight)) done sees
 
 module _ (setting : Setting) (number : ℕ) (phase : Phase) (taken : ℕ)
-    (staff : IsStaff (gateway_count setting.script.gateways) phase.tasks (hands_of (gateway_count setting.script.gateways) phase.tasks))
-    (workers : List Worker) (seated : AreSeated (gateway_count setting.script.gateways) phase.tasks (hands_of (gateway_count setting.script.gateways) phase.tasks) taken workers)
-    (before after : Holdings) (front : List Entry) (kept : List (ℕ × List Entry)) (others : List WorkerEnd) (ends : List (List End)) (lasts : List Holding)
-    (have : HaveEnded setting phase.tasks before front workers kept others ends lasts) (left : AreLeft before workers lasts after)
-    (sights seen : List Sight) (old new : Slots) (all : All (λ (e : WorkerEnd). e.came ≡ Ok tt) others) (taken_in : AreTakenIn workers others sights seen old new)
+    (staff : IsStaff (gateway_count setting.script.gateways) phase.tasks (hands_of (gateway_count setting.script.gateways) phase.tasks)) (made : List Made)
+    (seated : AreSeated (gateway_count setting.script.gateways) phase.tasks (hands_of (gateway_count setting.script.gateways) phase.tasks) taken (workers_in made))
+    (before after : Holdings) (front : List Entry) (others : List WorkerEnd) (have : HaveEnded setting phase.tasks before front made others) (left : AreLeft before made after)
+    (sights seen : List Sight) (old new : Slots) (all : All (λ (e : WorkerEnd). e.came ≡ Ok tt) others) (taken_in : AreTakenIn (workers_in made) others sights seen old new)
     (empty : (gateway : Option ℕ) (place : ℕ) (o : Part) → slot_at old gateway place ≡ Some (Some o) → ⊥) (counted : length new.gateways.items ≡ gateway_count setting.script.gateways) where
+  abbrev workers : List Worker
+  workers = workers_in made
+
+  abbrev ends : List (List End)
+  ends = ends_in made
+
   abbrev gateways : ℕ
   gateways = gateway_count setting.script.gateways
 
   done : AreDone workers ends × (length workers ≡ length others)
-  done = are_done setting phase.tasks before front after workers kept others ends lasts have all
+  done = are_done setting phase.tasks before front after made others have all
 
   -- a worker is a hand's
   of_hand : (w : Worker) → Contains workers w → (h : Hand) × (n : ℕ) × IsWorkerOf gateways phase.tasks h n w
@@ -198,10 +194,11 @@ module _ (setting : Setting) (number : ℕ) (phase : Phase) (taken : ℕ)
   filled gateway place task o at is = elim (taken_in.origin gateway place o is) [
     | inl older ↦ absurd (empty gateway place o older)
     | inr (w, e, among, whose, here) ↦
-        let c = comes setting phase.tasks before front after workers kept others ends lasts w e have left.own among in
-        let came = part_at phase.tasks w.tasks ((c.has).was).own c.own e.parts.items place o ((c.has).was).are (c.has).parts here in
+        let c = comes setting phase.tasks before front after made others w e have left.own among in
+        let one = c.one in
+        let came = part_at phase.tasks one.worker.tasks ((c.has).was).own one.ends e.parts.items place o ((c.has).was).are (c.has).parts (subst (λ (v : Worker). Contains (zip v.tasks e.parts.items) (place, o)) (sym c.is) here) in
         let same : came.task ≡ task = one_value came.task task (slice_get phase.tasks place) came.at at in
-        (came.end, record { worker = w; own = c.own; among = c.among; is = sym whose; came = came.among }, subst (λ (x : Task). IsPart x.work came.end o) same came.is)
+        (came.end, record { worker = one.worker; own = one.ends; among = made_among made one c.among; is = ap (λ (v : Worker). v.gateway) c.is ∙ sym whose; came = came.among }, subst (λ (x : Task). IsPart x.work came.end o) same came.is)
   ]
 
   -- whoever does a task has filled its slot
@@ -212,9 +209,10 @@ module _ (setting : Setting) (number : ℕ) (phase : Phase) (taken : ℕ)
       let w = same_place (hands_of gateways phase.tasks) workers k.0 h (sym seated.count) k.1 in
       let of = seated.each k.0 h w.0 k.1 w.1 in
       let e = beside_first workers others w.0 done.1 (contains_place workers k.0 w.0 w.1) in
-      let c = comes setting phase.tasks before front after workers kept others ends lasts w.0 e.0 have left.own e.1 in
-      let whole = one_done setting phase.tasks before front after w.0 c.kept e.0 c.own c.last c.has (All-contains (λ (x : WorkerEnd). x.came ≡ Ok tt) others e.0 all (second_in_zip workers others w.0 e.0 e.1)) in
-      let o = beside_first (w.0).tasks (e.0).parts.items place whole.1 ((of.places).each place t) in
+      let c = comes setting phase.tasks before front after made others w.0 e.0 have left.own e.1 in
+      let whole = one_done setting phase.tasks before front after c.one e.0 c.has (All-contains (λ (x : WorkerEnd). x.came ≡ Ok tt) others e.0 all (second_in_zip workers others w.0 e.0 e.1)) in
+      let long : length (w.0).tasks ≡ length (e.0).parts.items = subst (λ (v : Worker). length v.tasks ≡ length (e.0).parts.items) c.is whole.1 in
+      let o = beside_first (w.0).tasks (e.0).parts.items place long ((of.places).each place t) in
       subst (λ (g : Option ℕ). IsFilled new g place) of.gateway (taken_in.laid w.0 e.0 place o.0 e.1 o.1)
 
   -- the ends of those who do a task, and their parts
@@ -262,8 +260,9 @@ module _ (setting : Setting) (number : ℕ) (phase : Phase) (taken : ℕ)
   sees : AreSeenBeside before workers sights → AreSeen after seen
   sees beside place sight is = elim (taken_in.sights_are place sight is) [
     | inl (w, e, among, gateway, same) ↦
-        let c = comes setting phase.tasks before front after workers kept others ends lasts w e have left.own among in
-        subst (λ (held : Holding). Sees held sight) (sym (c.left place gateway)) (subst (Sees c.last) same (seen_by c.last e (All-contains (λ (x : WorkerEnd). x.came ≡ Ok tt) others e all (second_in_zip workers others w e among)) (c.has).sees))
+        let c = comes setting phase.tasks before front after made others w e have left.own among in
+        let one = c.one in
+        subst (λ (held : Holding). Sees held sight) (sym (c.left place (ap (λ (v : Worker). v.gateway) c.is ∙ gateway))) (subst (Sees one.last) same (seen_by one.last e (All-contains (λ (x : WorkerEnd). x.came ≡ Ok tt) others e all (second_in_zip workers others w e among)) (c.has).sees))
     | inr (older, none) ↦ subst (λ (held : Holding). Sees held sight) (sym (left.others place none)) (beside place sight older none)
   ]
 

@@ -1,6 +1,6 @@
 -- What gateways gave to a query, one after another.
 use Rattle.std.proofs.Common.{◌≡◌, ◌≢◌, ℕ, suc, ◌+◌, ◌<◌, get_or, take, drop, Bool, true, false, List, [], ◌∷◌, ◌++◌, length, map, Option, Some, None, refl, sym, ◌∙◌, ap, subst, arith, append-nil}
-use Rattle.std.specs.Prelude.{Ok, Err, MatchResult, OnOk, Result, is_some, not}
+use Rattle.std.specs.Prelude.{Ok, Err, OnOk, Result, is_some, not}
 use Rattle.std.proofs.lemmas.List.{map-id, take-append-drop}
 use Rattle.base.proofs.Lists.{drop_place}
 use Rattle.querier.specs.Gathered.{IsGathered}
@@ -24,33 +24,41 @@ use Rattle.script_running.proofs.Taking.{found}
 -- what one part adds
 abbrev answer_in : QueryPart → List Answer
 answer_in given.NotAsked = []
-answer_in (given.Answer own) = own ∷ []
-answer_in (given.NoAnswer why) = []
+answer_in given.NoView = []
+answer_in (given.Answer own first) = own ∷ []
+answer_in (given.NoAnswer why first) = []
 
 abbrev names_in : ℕ → QueryPart → List Names
 names_in gateway given.NotAsked = []
-names_in gateway (given.Answer own) = record { gateway = gateway; sources = own.sources } ∷ []
-names_in gateway (given.NoAnswer why) = []
+names_in gateway given.NoView = []
+names_in gateway (given.Answer own first) = record { gateway = gateway; sources = own.sources } ∷ []
+names_in gateway (given.NoAnswer why first) = []
 
 answers_more : (parts : List QueryPart) (one : QueryPart) → answers_of (parts ++ one ∷ []) ≡ answers_of parts ++ answer_in one
 answers_more [] given.NotAsked = refl
-answers_more [] (given.Answer own) = refl
-answers_more [] (given.NoAnswer why) = refl
+answers_more [] given.NoView = refl
+answers_more [] (given.Answer own first) = refl
+answers_more [] (given.NoAnswer why first) = refl
 answers_more (given.NotAsked ∷ parts) one = answers_more parts one
-answers_more (given.Answer own ∷ parts) one = ap (λ (l : List Answer). own ∷ l) (answers_more parts one)
-answers_more (given.NoAnswer why ∷ parts) one = answers_more parts one
+answers_more (given.NoView ∷ parts) one = answers_more parts one
+answers_more (given.Answer own first ∷ parts) one = ap (λ (l : List Answer). own ∷ l) (answers_more parts one)
+answers_more (given.NoAnswer why first ∷ parts) one = answers_more parts one
 
 names_more : (gateway : ℕ) (parts : List QueryPart) (one : QueryPart) → names_of gateway (parts ++ one ∷ []) ≡ names_of gateway parts ++ names_in (gateway + length parts) one
 names_more gateway [] given.NotAsked = refl
-names_more gateway [] (given.Answer own) = let here : gateway ≡ gateway + 0 = omega arith in ap (λ (n : ℕ). record { gateway = n; sources = own.sources } ∷ []) here
-names_more gateway [] (given.NoAnswer why) = refl
+names_more gateway [] given.NoView = refl
+names_more gateway [] (given.Answer own first) = let here : gateway ≡ gateway + 0 = omega arith in ap (λ (n : ℕ). record { gateway = n; sources = own.sources } ∷ []) here
+names_more gateway [] (given.NoAnswer why first) = refl
 names_more gateway (given.NotAsked ∷ parts) one =
     let there : gateway + 1 + length parts ≡ gateway + suc (length parts) = omega arith in
     names_more (gateway + 1) parts one ∙ ap (λ (n : ℕ). names_of (gateway + 1) parts ++ names_in n one) there
-names_more gateway (given.Answer own ∷ parts) one =
+names_more gateway (given.NoView ∷ parts) one =
+    let there : gateway + 1 + length parts ≡ gateway + suc (length parts) = omega arith in
+    names_more (gateway + 1) parts one ∙ ap (λ (n : ℕ). names_of (gateway + 1) parts ++ names_in n one) there
+names_more gateway (given.Answer own first ∷ parts) one =
     let there : gateway + 1 + length parts ≡ gateway + suc (length parts) = omega arith in
     ap (λ (l : List Names). record { gateway = gateway; sources = own.sources } ∷ l) (names_more (gateway + 1) parts one ∙ ap (λ (n : ℕ). names_of (gateway + 1) parts ++ names_in n one) there)
-names_more gateway (given.NoAnswer why ∷ parts) one =
+names_more gateway (given.NoAnswer why first ∷ parts) one =
     let there : gateway + 1 + length parts ≡ gateway + suc (length parts) = omega arith in
     names_more (gateway + 1) parts one ∙ ap (λ (n : ℕ). names_of (gateway + 1) parts ++ names_in n one) there
 
@@ -83,35 +91,46 @@ unasked_more parts before h = record {
 }
 
 -- an answer joins those before it
-pub answer_more : (parts : List QueryPart) (before after : Given) (gateway : ℕ) (own : Answer) (sources : List ℕ) → length parts ≡ gateway → sources ≡ own.sources
+pub answer_more : (parts : List QueryPart) (before after : Given) (gateway : ℕ) (own : Answer) (first : ℕ) (sources : List ℕ) → length parts ≡ gateway → sources ≡ own.sources
     → after.answers ≡ before.answers ++ own ∷ [] → after.names ≡ before.names ++ record { gateway = gateway; sources = sources } ∷ [] → after.none ≡ before.none
-    → HasGiven parts before → HasGiven (parts ++ given.Answer own ∷ []) after
-answer_more parts before after gateway own sources count same answers names none h =
+    → HasGiven parts before → HasGiven (parts ++ given.Answer own first ∷ []) after
+answer_more parts before after gateway own first sources count same answers names none h =
     let here : gateway ≡ 0 + length parts = omega (arith, count) in
     record {
-      answers = answers ∙ ap (λ (l : List Answer). l ++ own ∷ []) h.answers ∙ sym (answers_more parts (given.Answer own));
+      answers = answers ∙ ap (λ (l : List Answer). l ++ own ∷ []) h.answers ∙ sym (answers_more parts (given.Answer own first));
       names = names ∙ ap (λ (l : List Names). l ++ record { gateway = gateway; sources = sources } ∷ []) h.names
           ∙ ap (λ (l : List ℕ). names_of 0 parts ++ record { gateway = gateway; sources = l } ∷ []) same
-          ∙ ap (λ (n : ℕ). names_of 0 parts ++ record { gateway = n; sources = own.sources } ∷ []) here ∙ sym (names_more 0 parts (given.Answer own));
-      none = none ∙ h.none ∙ sym (or_none (first_none 0 parts)) ∙ sym (none_more 0 parts (given.Answer own));
+          ∙ ap (λ (n : ℕ). names_of 0 parts ++ record { gateway = n; sources = own.sources } ∷ []) here ∙ sym (names_more 0 parts (given.Answer own first));
+      none = none ∙ h.none ∙ sym (or_none (first_none 0 parts)) ∙ sym (none_more 0 parts (given.Answer own first));
     }
 
-noted_by : (parts : List QueryPart) (gateway : ℕ) (why : NoAnswer) (before after : Option (ℕ × NoAnswer)) → gateway ≡ 0 + length parts → before ≡ first_none 0 parts → (before ≡ None → after ≡ Some (gateway, why)) → ((own : ℕ × NoAnswer) → before ≡ Some own → after ≡ before)
-    → after ≡ first_none 0 (parts ++ given.NoAnswer why ∷ [])
-noted_by parts gateway why None after here is first other =
-    first refl ∙ ap (λ (n : ℕ). or_other None (Some (n, why))) here ∙ ap (λ (o : Option (ℕ × NoAnswer)). or_other o (Some (0 + length parts, why))) is ∙ sym (none_more 0 parts (given.NoAnswer why))
-noted_by parts gateway why (Some own) after here is first other =
-    other own refl ∙ ap (λ (o : Option (ℕ × NoAnswer)). or_other o (Some (0 + length parts, why))) is ∙ sym (none_more 0 parts (given.NoAnswer why))
+-- what gives no answer has none, and names nothing
+none_in : (one : QueryPart) (why : NoAnswer) (gateway : ℕ) → why_none one ≡ Some why → (answer_in one ≡ []) × (names_in gateway one ≡ [])
+none_in given.NotAsked why gateway is = absurd (cc (is))
+none_in given.NoView why gateway is = (refl, refl)
+none_in (given.Answer own first) why gateway is = absurd (cc (is))
+none_in (given.NoAnswer also first) why gateway is = (refl, refl)
+
+noted_by : (parts : List QueryPart) (one : QueryPart) (gateway : ℕ) (why : NoAnswer) (before after : Option (ℕ × NoAnswer)) → why_none one ≡ Some why → gateway ≡ 0 + length parts → before ≡ first_none 0 parts → (before ≡ None → after ≡ Some (gateway, why)) → ((own : ℕ × NoAnswer) → before ≡ Some own → after ≡ before)
+    → after ≡ first_none 0 (parts ++ one ∷ [])
+noted_by parts one gateway why None after gives here is first other =
+    first refl ∙ ap (λ (n : ℕ). or_other None (Some (n, why))) here ∙ ap (λ (o : Option (ℕ × NoAnswer)). or_other o (Some (0 + length parts, why))) is
+    ∙ ap (λ (w : Option NoAnswer). or_other (first_none 0 parts) (or_first w (0 + length parts) None)) (sym gives) ∙ sym (none_more 0 parts one)
+noted_by parts one gateway why (Some own) after gives here is first other =
+    other own refl ∙ ap (λ (o : Option (ℕ × NoAnswer)). or_other o (Some (0 + length parts, why))) is
+    ∙ ap (λ (w : Option NoAnswer). or_other (first_none 0 parts) (or_first w (0 + length parts) None)) (sym gives) ∙ sym (none_more 0 parts one)
 
 -- a gateway that gave no answer is noted, if it is the first
-pub none_noted : (parts : List QueryPart) (before after : Given) (gateway : ℕ) (why : NoAnswer) → length parts ≡ gateway → after.answers ≡ before.answers → after.names ≡ before.names
+pub none_noted : (parts : List QueryPart) (one : QueryPart) (before after : Given) (gateway : ℕ) (why : NoAnswer) → why_none one ≡ Some why → length parts ≡ gateway → after.answers ≡ before.answers → after.names ≡ before.names
     → (before.none ≡ None → after.none ≡ Some (gateway, why)) → ((own : ℕ × NoAnswer) → before.none ≡ Some own → after.none ≡ before.none)
-    → HasGiven parts before → HasGiven (parts ++ given.NoAnswer why ∷ []) after
-none_noted parts before after gateway why count answers names first other h = record {
-  answers = answers ∙ h.answers ∙ sym (append-nil (answers_of parts)) ∙ sym (answers_more parts (given.NoAnswer why));
-  names = names ∙ h.names ∙ sym (append-nil (names_of 0 parts)) ∙ sym (names_more 0 parts (given.NoAnswer why));
-  none = noted_by parts gateway why before.none after.none (omega (arith, count)) h.none first other;
-}
+    → HasGiven parts before → HasGiven (parts ++ one ∷ []) after
+none_noted parts one before after gateway why gives count answers names first other h =
+    let none = none_in one why (0 + length parts) gives in
+    record {
+      answers = answers ∙ h.answers ∙ sym (append-nil (answers_of parts)) ∙ ap (λ (l : List Answer). answers_of parts ++ l) (sym none.0) ∙ sym (answers_more parts one);
+      names = names ∙ h.names ∙ sym (append-nil (names_of 0 parts)) ∙ ap (λ (l : List Names). names_of 0 parts ++ l) (sym none.1) ∙ sym (names_more 0 parts one);
+      none = noted_by parts one gateway why before.none after.none gives (omega (arith, count)) h.none first other;
+    }
 
 was_none : {X : Type 0} (o : Option X) (test : Bool) → is_some o ≡ not test → test ≡ true → o ≡ None
 was_none None test shows so = refl
@@ -124,28 +143,28 @@ was_some None false shows so = absurd (cc (shows))
 was_some (Some x) test shows so = λ is. absurd (cc (is))
 
 -- as the test shows it
-pub none_put : (parts : List QueryPart) (before : Given) (gateway : ℕ) (why : NoAnswer) (test : Bool) → is_some before.none ≡ not test → test ≡ true → length parts ≡ gateway → HasGiven parts before
-    → HasGiven (parts ++ given.NoAnswer why ∷ []) (record { answers = before.answers; names = before.names; none = Some (gateway, why) })
-none_put parts before gateway why test shows so count h =
+pub none_put : (parts : List QueryPart) (one : QueryPart) (before : Given) (gateway : ℕ) (why : NoAnswer) (test : Bool) → is_some before.none ≡ not test → test ≡ true → why_none one ≡ Some why → length parts ≡ gateway → HasGiven parts before
+    → HasGiven (parts ++ one ∷ []) (record { answers = before.answers; names = before.names; none = Some (gateway, why) })
+none_put parts one before gateway why test shows so gives count h =
     let none = was_none before.none test shows so in
-    none_noted parts before (record { answers = before.answers; names = before.names; none = Some (gateway, why) }) gateway why count refl refl (λ is. refl) (λ own is. absurd (cc (none, is))) h
+    none_noted parts one before (record { answers = before.answers; names = before.names; none = Some (gateway, why) }) gateway why gives count refl refl (λ is. refl) (λ own is. absurd (cc (none, is))) h
 
-pub none_kept : (parts : List QueryPart) (before : Given) (gateway : ℕ) (why : NoAnswer) (test : Bool) → is_some before.none ≡ not test → test ≡ false → length parts ≡ gateway → HasGiven parts before
-    → HasGiven (parts ++ given.NoAnswer why ∷ []) (record { answers = before.answers; names = before.names; none = before.none })
-none_kept parts before gateway why test shows so count h =
-    none_noted parts before (record { answers = before.answers; names = before.names; none = before.none }) gateway why count refl refl (λ is. absurd (was_some before.none test shows so is)) (λ own is. refl) h
+pub none_kept : (parts : List QueryPart) (one : QueryPart) (before : Given) (gateway : ℕ) (why : NoAnswer) (test : Bool) → is_some before.none ≡ not test → test ≡ false → why_none one ≡ Some why → length parts ≡ gateway → HasGiven parts before
+    → HasGiven (parts ++ one ∷ []) (record { answers = before.answers; names = before.names; none = before.none })
+none_kept parts one before gateway why test shows so gives count h =
+    none_noted parts one before (record { answers = before.answers; names = before.names; none = before.none }) gateway why gives count refl refl (λ is. absurd (was_some before.none test shows so is)) (λ own is. refl) h
 
 -- what a gateway gave, as it was added
 pub unasked_added : (parts : List QueryPart) (before : Given) (one : QueryPart) → one ≡ given.NotAsked → HasGiven parts before → HasGiven (parts ++ one ∷ []) before
 unasked_added parts before one is h = subst (λ (p : QueryPart). HasGiven (parts ++ p ∷ []) before) (sym is) (unasked_more parts before h)
 
-pub answer_added : {E : Type 0} (parts : List QueryPart) (before : Given) (answers : List Answer) (names : List Names) (gateway : ℕ) (own : Answer) (sources : List ℕ) (one : QueryPart) (r : Result (Unit {0}) E)
-    → one ≡ given.Answer own → sources ≡ own.sources → OnOk r (answers ≡ before.answers ++ own ∷ []) → names ≡ before.names ++ record { gateway = gateway; sources = sources } ∷ [] → length parts ≡ gateway → HasGiven parts before
+pub answer_added : {E : Type 0} (parts : List QueryPart) (before : Given) (answers : List Answer) (names : List Names) (gateway : ℕ) (own : Answer) (first : ℕ) (sources : List ℕ) (one : QueryPart) (r : Result (Unit {0}) E)
+    → one ≡ given.Answer own first → sources ≡ own.sources → OnOk r (answers ≡ before.answers ++ own ∷ []) → names ≡ before.names ++ record { gateway = gateway; sources = sources } ∷ [] → length parts ≡ gateway → HasGiven parts before
     → OnOk r (HasGiven (parts ++ one ∷ []) (record { answers = answers; names = names; none = before.none }))
-answer_added parts before answers names gateway own sources one (Err e) is same took named count h = tt
-answer_added parts before answers names gateway own sources one (Ok tt) is same took named count h =
+answer_added parts before answers names gateway own first sources one (Err e) is same took named count h = tt
+answer_added parts before answers names gateway own first sources one (Ok tt) is same took named count h =
     subst (λ (p : QueryPart). HasGiven (parts ++ p ∷ []) (record { answers = answers; names = names; none = before.none })) (sym is)
-    (answer_more parts before (record { answers = answers; names = names; none = before.none }) gateway own sources count same took named refl h)
+    (answer_more parts before (record { answers = answers; names = names; none = before.none }) gateway own first sources count same took named refl h)
 
 -- ---- the outcome
 

@@ -1,12 +1,11 @@
 -- What a task leaves of the hand that did it.
-use Rattle.std.proofs.Common.{◌≡◌, ◌⊎◌, inl, inr, ℕ, Bool, IsTrue, true, false, List, refl, sym, subst}
-use Rattle.std.specs.Prelude.{Option, Result, Ok, Err}
+use Rattle.std.proofs.Common.{◌≡◌, inl, inr, Bool, IsTrue, true, false, refl, sym, subst}
+use Rattle.std.specs.Prelude.{Result, Ok, Err}
 use Rattle.world_core.specs.Machines.{is_driven_full, is_driven_wanting}
 use Rattle.world_core.specs.Told.{HandTold}
 use Rattle.world_core.specs.Turning.{Turned}
 use Rattle.world_core.specs.declared.driving.Driven.{Driven}
 use Rattle.world_core.specs.declared.driving.Driven.TheVariants.{Ended, Stopped, Full, NoMemory}
-use Rattle.world_core.specs.declared.entry.Entry.{Entry}
 use Rattle.world_core.proofs.Turning.{more_turned, none_turned}
 use Rattle.script_running.specs.Drives.{came_by, driven_end, stop_of}
 use Rattle.script_running.specs.Outcomes.{Part}

@@ -34,24 +34,25 @@ use Rattle.script_core.specs.Lawful.{IsLawfulPhase, IsLawfulScript, IsLawfulWork
 use Rattle.script_core.specs.Workers.{seats_before, workers_after, workers_before, workers_of}
 use Rattle.script_core.specs.declared.script.Script.{Script}
 use Rattle.lifecycle_core.specs.Conducts.{AreDone}
-use Rattle.lifecycle_core.specs.Holdings.{Holding, Holdings}
+use Rattle.lifecycle_core.specs.Holdings.{Holdings}
 use Rattle.lifecycle_core.specs.Setting.{Setting}
-use Rattle.lifecycle_core.specs.Tasks.{End}
 use Rattle.lifecycle_core.specs.Ways.{BeginsPhase}
 use Rattle.lifecycle_core.proofs.phases.ActingRuns.{is_gateway}
 use Rattle.lifecycle_core.proofs.phases.Fronts.{AreApart as Apart, apart_of, script_is_cut_well}
 use Rattle.moment_core.specs.Limits.{moment_limit}
-use Rattle.script_running.specs.Begun.{AreLeft, WasBegun, WereKept}
+use Rattle.script_running.specs.Begun.{AreLeft, Made, WasBegun, ends_in, kept_in, workers_in}
 use Rattle.script_running.specs.Cutting.{KnowsPhases, Passed}
 use Rattle.script_running.specs.Ended.{AreInRow, HaveEnded, IsPostOf}
-use Rattle.script_running.specs.Gathering.{HaveOwnGateways, Gathers}
-use Rattle.script_running.specs.Going.{HasCome, HasGone, HasSeenFull, HasStopped, IfFull, IsClockSet, Met}
+use Rattle.script_running.specs.Gathering.{HasGathered, HaveCome, HaveOwnGateways, Joined}
+use Rattle.script_running.specs.Going.{HasCome, HasGone, HasReached, HasSeenFull, HasStopped, IfFull, IsClockSet, Met}
 use Rattle.script_running.specs.Outcomes.{Outcome, PhasesCame, TasksCame}
 use Rattle.script_running.specs.Lending.{Loan}
+use Rattle.script_running.specs.Reporting.{tasks_in}
 use Rattle.script_running.specs.Shelves.{setting_by}
 use Rattle.script_running.specs.Workers.{IsAtWork, MayWork, Post}
 use Rattle.script_running.specs.declared.came.Broken.{Broken}
 use Rattle.script_running.specs.declared.came.Broken.TheVariants as broken
+use Rattle.script_running.specs.declared.progress.Progress.{Progress}
 use Rattle.script_running.specs.declared.shelf.ShelfBlock.{ShelfBlock}
 use Rattle.script_running.specs.declared.sight.Sight.{Sight}
 use Rattle.script_running.specs.declared.worker.WorkerEnd.{WorkerEnd}
@@ -60,6 +61,7 @@ use Rattle.script_running.proofs.Gathered.{same_place}
 use Rattle.script_running.proofs.Going.{gone_more}
 use Rattle.script_running.proofs.JobSteps.{allowed}
 use Rattle.script_running.proofs.Knowing.{knows_more, knows_on}
+use Rattle.script_running.proofs.Reporting.{still_same, tasks_more}
 use Rattle.script_running.proofs.Rows.{workers_in_row}
 
 abbrev Kept : Type 0
@@ -230,27 +232,24 @@ module _ (script : Script) (shelf : List ShelfBlock) (place : ℕ) (phase : Phas
       abbrev one : Passed
       one = record { clock = entry_of (view_of root).seat (Clock phase.moment) seen; kept = kept }
 
-      ended : (ends : List (List End)) × (lasts : List Holding) × HaveEnded own phase.tasks g.held (view_of after).front workers kept others ends lasts
+      ended : (made : List Made) × (workers_in made ≡ workers) × (kept_in made ≡ kept) × HaveEnded own phase.tasks g.held (view_of after).front made others
       ended = have_ended script shelf loan lent its place phase g.held at (view_of set).known (view_of after).front (splits + 1) workers posts others kept sent (subst (AreInRow (splits + 1)) (sym workers_are) (row script lawful place phase at splits splits_are)) runs
 
+      abbrev made : List Made
+      made = ended.0
+
       -- by the number of the finished phases
-      have : HaveEnded own phase.tasks g.held (view_of after).front (workers_of script (length front_phases)) kept others ended.0 ended.1
-      have = subst (λ (ws : List Worker). HaveEnded own phase.tasks g.held (view_of after).front ws kept others ended.0 ended.1) (workers_are ∙ ap (workers_of script) (sym long)) ended.2
+      staff : workers_in made ≡ workers_of script (length front_phases)
+      staff = ended.1 ∙ workers_are ∙ ap (workers_of script) (sym long)
 
-      were : WereKept own phase.tasks g.held (workers_of script (length front_phases)) kept ended.0 ended.1 × (length ended.1 ≡ length (workers_of script (length front_phases)))
-      were = were_kept own phase.tasks g.held (view_of after).front (workers_of script (length front_phases)) kept others ended.0 ended.1 have
-
-      next : (holdings : Holdings) × AreLeft g.held (workers_of script (length front_phases)) ended.1 holdings × WasBegun own (length front_phases) phase g.held one ended.0 holdings
-      next = was_begun own (script_is_cut_well own) (length front_phases) phase g.held one ended.0 ended.1 begins were.0 were.1
-
-      left : AreLeft g.held workers ended.1 next.0
-      left = subst (λ (ws : List Worker). AreLeft g.held ws ended.1 next.0) (sym (workers_are ∙ ap (workers_of script) (sym long))) next.1
+      next : (holdings : Holdings) × AreLeft g.held made holdings × WasBegun own (length front_phases) phase g.held one (ends_in made) holdings
+      next = was_begun own (script_is_cut_well own) (length front_phases) phase g.held one made staff ended.2 begins (were_kept own phase.tasks g.held (view_of after).front made others ended.3)
 
       knows : KnowsPhases (view_of after) (g.passed ++ one ∷ [])
       knows = knows_more {J = Post} {E = WorkerEnd} MayWork root set after (Clock phase.moment) seen count kept (splits + 1) posts others g.passed g.knows acts run (omega arith) runs
 
-      in_row : AreInRow (splits + 1) (workers_of script (length front_phases))
-      in_row = subst (λ (n : ℕ). AreInRow (splits + 1) (workers_of script n)) (sym long) (row script lawful place phase at splits splits_are)
+      in_row : AreInRow (splits + 1) (workers_in made)
+      in_row = subst (AreInRow (splits + 1)) (sym (ended.1 ∙ workers_are)) (row script lawful place phase at splits splits_are)
 
       broke : (why : Broken) (later : List Outcome) → (later ≡ outcomes) × Met why others → HasStopped own (view_of after) later why
       broke why later met = record {
@@ -262,23 +261,39 @@ module _ (script : Script) (shelf : List ShelfBlock) (place : ℕ) (phase : Phas
         held = g.held;
         so_far = g.so_far;
         came = subst (λ (os : List Outcome). PhasesCame script 0 front_phases (g.so_far).told os) (sym met.0) g.came;
-        stands = inr (inl (record { one = one; begins = begins; others = others; ends = ended.0; lasts = ended.1; have = have; seat = splits + 1; row = in_row; knows = knows; met = met.1 }));
+        stands = inr (inl (record { one = one; begins = begins; others = others; made = made; workers = staff; kept = ended.2; have = ended.3; seat = splits + 1; row = in_row; knows = knows; met = met.1 }));
       }
 
-      -- what the phase comes to, by what its workers' ends come to together
-      phase_came : (seen_then : List Sight) (later : List Outcome) (came : Result (Unit {0}) Broken) → length seen_then ≡ length sights → Gathers own phase workers ended.0 others next.0 seen_then outcomes later came
-          → HasCome own (view_of after) (take (place + 1) script.phases) seen_then later came
-      phase_came seen_then later (Err why) each gathers = broke why later gathers
-      phase_came seen_then later (Ok done) each (all, sees, (own_outcomes, are, tasks)) =
-          let same : workers ≡ workers_of script (length front_phases) = workers_are ∙ ap (workers_of script) (sym long) in
-          subst (λ (ps : List Phase). HasGone own (view_of after) ps seen_then later) (sym (take_place script.phases place phase at))
-          (subst (λ (os : List Outcome). HasGone own (view_of after) (front_phases ++ phase ∷ []) seen_then os) (sym are)
-          (gone_more own (view_of root) (view_of after) front_phases sights seen_then outcomes own_outcomes phase one ended.0 next.0 g next.2 (subst (λ (ws : List Worker). AreDone ws ended.0) same all) (subst (λ (ws : List Worker). TasksCame script ws ended.0 0 phase.tasks own_outcomes) same tasks) knows each sees))
+      -- ---- what the phase comes to, by what its workers' ends come to together, and by the report
 
-      pub phase_comes : (seen_then : List Sight) (later : List Outcome) (came : Result (Unit {0}) Broken) → length seen_then ≡ length sights
-          → ((holdings : Holdings) (each : List (List End)) (lasts : List Holding) → HaveEnded own phase.tasks g.held (view_of after).front workers kept others each lasts → AreLeft g.held workers lasts holdings → Gathers own phase workers each others holdings seen_then outcomes later came)
-          → HasCome own (view_of after) (take (place + 1) script.phases) seen_then later came
-      phase_comes seen_then later came each gathers = phase_came seen_then later came each (gathers next.0 ended.0 ended.1 ended.2 left)
+      abbrev joined_of : Holdings → List Made → Joined
+      joined_of holdings made = record { number = place; phase = phase; before = g.held; after = holdings; front = (view_of after).front; made = made }
+
+      module _ {P : Type 0} (tells : P → Script → List Task → List Outcome → Type 0) (report : P) (told : tells report script (tasks_in front_phases) outcomes) (mid new : Progress P) (same : mid.report ≡ report) (each : length new.sights.items ≡ length sights) where
+        whole : HasGathered tells own (joined_of next.0 made) mid new → HasReached tells own (view_of after) (take (place + 1) script.phases) new
+        whole h =
+            let here : workers_of script place ≡ workers_of script (length front_phases) = ap (workers_of script) (sym long) in
+            let ahead = take_place script.phases place phase at in
+            record {
+              outcomes = outcomes ++ h.own;
+              gone = subst (λ (ps : List Phase). HasGone own (view_of after) ps new.sights.items (outcomes ++ h.own)) (sym ahead)
+                  (gone_more own (view_of root) (view_of after) front_phases sights new.sights.items outcomes h.own phase one (ends_in made) next.0 g next.2 (subst (λ (ws : List Worker). AreDone ws (ends_in made)) here h.done) (subst (λ (ws : List Worker). TasksCame script ws (ends_in made) 0 phase.tasks h.own) here h.came) knows each h.seen);
+              told = subst (λ (ts : List Task). tells new.report script ts (outcomes ++ h.own)) (tasks_more front_phases phase ∙ ap tasks_in (sym ahead))
+                  (h.told (tasks_in front_phases) outcomes (subst (λ (r : P). tells r script (tasks_in front_phases) outcomes) (sym same) told));
+            }
+
+        comes : (came : Result (Unit {0}) Broken) → HaveCome others came → (came ≡ Err broken.Full → new.report ≡ mid.report) → OnOk came (HasGathered tells own (joined_of next.0 made) mid new) → HasCome tells own (view_of after) (take (place + 1) script.phases) new came
+        comes (Ok done) met keeps h = whole h
+        comes (Err why) met keeps h = record {
+          outcomes = outcomes;
+          stopped = broke why outcomes (refl, met);
+          told = (report, still_same report new.report why (λ full. keeps full ∙ same), (front_phases, phase ∷ drop (place + 1) script.phases, parts, told));
+        }
+
+        pub phase_comes : (came : Result (Unit {0}) Broken) → HaveCome others came → (came ≡ Err broken.Full → new.report ≡ mid.report)
+            → ((holdings : Holdings) (made : List Made) → workers_in made ≡ workers → HaveEnded own phase.tasks g.held (view_of after).front made others → AreLeft g.held made holdings → OnOk came (HasGathered tells own (joined_of holdings made) mid new))
+            → HasCome tells own (view_of after) (take (place + 1) script.phases) new came
+        phase_comes came met keeps gathers = comes came met keeps (gathers next.0 made ended.1 ended.3 next.1)
 
 -- ---- the jobs
 

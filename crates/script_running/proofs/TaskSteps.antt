@@ -14,7 +14,6 @@ use Rattle.meta_fetcher.specs.declared.view.View.{View}
 use Rattle.meta_fetcher.specs.Syncs.{SyncRun}
 use Rattle.matchers.specs.declared.matcher.Matcher.{Matcher}
 use Rattle.store_ranges.specs.Reads.{Cache, Query as Question}
-use Rattle.store_ranges.specs.declared.cache.IndexCache.{IndexCache}
 use Rattle.store_calls.specs.SeriesCalls.{CallEnd, SeriesRun, asking, series_call}
 use Rattle.world_core.proofs.PlanLaws.{breaks_off}
 use Rattle.cleaner.specs.Cleanings.{cleaning}
@@ -34,13 +33,12 @@ use Rattle.lifecycle_core.specs.Setting.{Setting}
 use Rattle.lifecycle_core.specs.Tasks.{End, PartTask, QueryTask, ShipTask, StoppedRun, TaskRun, answered, ask_to, called_with, cleaned, compacted, not_asked, question_of, sync_rules, synced, synced_with, without_view}
 use Rattle.lifecycle_core.proofs.phases.GatewayParts.{ask_partition}
 use Rattle.lifecycle_core.specs.Ways.{IsDueAfter}
-use Rattle.script_running.specs.Outcomes.{Part}
+use Rattle.script_running.specs.Outcomes.{IsGatewayPart, Part}
 use Rattle.script_running.proofs.Calls.{Called}
 use Rattle.script_running.specs.Sights.{Sees, cache_of}
-use Rattle.script_running.specs.Tasks.{Adds, Answers, CameBy, Does, HasAsked, HasDone, WhenDone, WhenFull, view_by}
+use Rattle.script_running.specs.Tasks.{Adds, Answers, CameAs, CameBy, Does, HasAsked, HasDone, WhenDone, WhenFull, view_by}
 use Rattle.script_running.specs.declared.came.Broken.{Broken}
 use Rattle.script_running.specs.declared.came.Broken.TheVariants as broken
-use Rattle.script_running.specs.declared.outcome.NoAnswer.TheVariants as none
 use Rattle.script_running.specs.declared.came.Came.TheVariants as part
 use Rattle.script_running.specs.declared.outcome.QueryPart.TheVariants as given
 use Rattle.script_running.specs.declared.sight.Sight.{Sight}
@@ -132,7 +130,7 @@ a_view (Some used) view is = (used, refl, cc (is))
 
 -- one without a view answers so
 pub blind_asked : (held : Holding) (asked : Question) (seat : ℕ) (journal : List Entry) (sight : Sight) → sight.view ≡ None → Sees held sight
-    → HasAsked held asked seat journal journal sight (Ok (part.Query (given.NoAnswer none.NoView)))
+    → HasAsked held asked seat journal journal sight (Ok (part.Query given.NoView))
 blind_asked held asked seat journal sight blind sees = record {
   end = Some without_view;
   after = held;
@@ -144,7 +142,7 @@ blind_asked held asked seat journal sight blind sees = record {
     due = tt;
   };
   sees = sees;
-  by = λ low high selector. refl;
+  by = refl;
 }
 
 call_run : (used : Use) (held : Holding) (view : View) (asked : Question) (cache : Cache) (made : List Entry) (own : Option CallEnd) → held.used ≡ Some used → used.view ≡ view → held.cache ≡ cache → SeriesRun view asked cache made own
@@ -153,18 +151,8 @@ call_run used held view asked cache made own is same kept run =
     subst (λ (v : Option Use). QueryTask v (Some asked) held made (option_map (λ (call : CallEnd). answered used call.end) own) (called_with held own)) (sym is)
     (own, subst (λ (v : View). SeriesRun v asked held.cache made own) (sym same) (subst (λ (x : Cache). SeriesRun view asked x made own) (sym kept) run), refl, refl)
 
--- a call's end is that of any query
-any_query : (used : Use) (end : Option CallEnd) (came : Result Part Broken) → CameBy (works.Query (pos 0) (pos 0) 0) (option_map (λ (call : CallEnd). answered used call.end) end) came → (low high : ℤ) (selector : ℕ)
-    → CameBy (works.Query low high selector) (option_map (λ (call : CallEnd). answered used call.end) end) came
-any_query used (Some end) (Ok own) is low high selector = is
-any_query used (Some end) (Err broken.Full) is low high selector = absurd is
-any_query used (Some end) (Err broken.NoMemory) is low high selector = absurd is
-any_query used None (Ok own) is low high selector = absurd is
-any_query used None (Err broken.Full) is low high selector = tt
-any_query used None (Err broken.NoMemory) is low high selector = tt
-
 -- by what a gateway sees after its call
-sight_left : (held : Holding) (before after : Sight) (used : Use) (own : Option CallEnd) (came : Result Part Broken) → CameBy (works.Query (pos 0) (pos 0) 0) (option_map (λ (call : CallEnd). answered used call.end) own) came
+sight_left : (held : Holding) (before after : Sight) (used : Use) (own : Option CallEnd) (came : Result Part Broken) → CameAs IsGatewayPart (option_map (λ (call : CallEnd). answered used call.end) own) came
     → IfSome own (λ (call : CallEnd). call.cache ≡ cache_of after.cache) → Sees held before → after.view ≡ before.view → WhenDone came (Sees (called_with held own) after)
 sight_left held before after used (Some call) (Ok o) by left sees same = record { view_is = sees.view_is ∙ sym same; cache_is = left }
 sight_left held before after used None (Ok o) by left sees same = absurd by
@@ -172,11 +160,11 @@ sight_left held before after used own (Err why) by left sees same = tt
 
 -- one with a view answers by a call over it
 pub call_asked : (held : Holding) (asked : Question) (seat : ℕ) (old new : List Entry) (came : Result Part Broken) (before after : Sight) (view : View) (cache : Cache) → before.view ≡ Some view → after.view ≡ before.view → cache ≡ cache_of before.cache
-    → ((used : Use) (low high : ℤ) (selector : ℕ) → Called view asked cache seat old new used low high selector after.cache came)
+    → ((used : Use) → used.view ≡ view → Called view asked cache seat old new used after.cache came)
     → Sees held before → HasAsked held asked seat old new after came
 call_asked held asked seat old new came before after view cache is same kept ran sees =
     let seen = a_view held.used view (sees.view_is ∙ is) in
-    let r = ran seen.0 (pos 0) (pos 0) 0 in
+    let r = ran seen.0 seen.2 in
     let a = r.1 in
     let end : Option CallEnd → Option End = option_map (λ (call : CallEnd). answered seen.0 call.end) in
     let runs : (made : List Entry) (e : Option CallEnd) → SeriesRun view asked cache made e → Answers asked held made (end e, called_with held e) =
@@ -193,7 +181,7 @@ call_asked held asked seat old new came before after view cache is same kept ran
             (due_by (SeriesRun view asked cache) (Answers asked held) seat a.made (λ es e one. ((end e, called_with held e), runs es e one))) a.due;
       };
       sees = sight_left held before after seen.0 r.0 came r.2 r.3 sees same;
-      by = any_query seen.0 r.0 came r.2;
+      by = r.2;
     }
 
 -- for want of memory nothing was asked
@@ -213,7 +201,7 @@ short_asked held asked seat journal sight = record {
     due = tt;
   };
   sees = tt;
-  by = λ low high selector. tt;
+  by = tt;
 }
 
 -- ---- a worker's part of a query
@@ -251,7 +239,7 @@ asked_done setting who place held seat old new came sight low high selector gate
     let runs : (made : List Entry) (one : Option End × Holding) → Answers question held made one → TaskRun setting who place (works.Query low high selector) held made one.0 one.1 =
     λ made one run. subst (λ (o : Option Ask). PartTask setting selector o held made one.0 one.1) (sym own) (subst (λ (q : Option Question). QueryTask held.used q held made one.0 one.1) (sym asks) run) in
     by_run setting who place held seat old new came (works.Query low high selector) (Answers question held) (λ one. one.0) (h.end, h.after) h.after sight h.adds
-    (λ made one run. (one.1, runs made one run)) (runs (h.adds).made (h.end, h.after) (h.adds).run) h.sees (h.by low high selector)
+    (λ made one run. (one.1, runs made one run)) (runs (h.adds).made (h.end, h.after) (h.adds).run) h.sees h.by
 
 none_part : (setting : Setting) (selector : ℕ) (ask : Option Ask) (held : Holding) (matchers : List Matcher) → slice_get setting.script.selectors selector ≡ Some matchers → PartTask setting selector ask held [] None held
 none_part setting selector None held matchers at = ((refl, inl refl), refl)

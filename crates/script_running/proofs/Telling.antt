@@ -1,23 +1,27 @@
 -- The slots of a phase's tasks, emptied one task after another.
-use Rattle.std.proofs.Common.{◌≡◌, ◌≢◌, ◌⊎◌, inl, inr, ℕ, ℤ, suc, ◌+◌, ◌<◌, ◌≤◌, List, [], ◌∷◌, ◌++◌, length, length-append, length-take, get_or, take, map, Option, Some, None, refl, sym, ◌∙◌, ap, subst, arith, append-nil, append_assoc}
-use Rattle.std.specs.Prelude.{OnOk, Result, slice_get}
+use Rattle.std.proofs.Common.{◌≡◌, ◌≢◌, inl, inr, ℕ, suc, Bool, true, false, ◌+◌, ◌<◌, ◌≤◌, List, [], ◌∷◌, ◌++◌, length, length-append, length-take, get_or, take, map, Option, Some, None, refl, sym, ◌∙◌, ap, subst, arith, append-nil}
+use Rattle.std.specs.Prelude.{IfOk, Ok, Err, OnOk, Result, if◌then◌else◌, is_some, slice_get}
 use Rattle.std.specs.List.{flat_map, range_with_len}
 use Rattle.std.proofs.Math.ListN.{set, length-set}
-use Rattle.std.proofs.lemmas.List.{flat_map_more, map-id}
+use Rattle.std.proofs.lemmas.List.{flat_map_more, map-id, take_all}
 use Rattle.std.proofs.lemmas.List.FromFn.{map-range_with_len_more}
 use Rattle.std.proofs.lemmas.Option.{slice_get_past}
-use Rattle.base.proofs.Lists.{take_place, slice_get-set_other}
-use Rattle.script_workers.specs.Hands.{gateway_of, hands_of_task}
+use Rattle.base.proofs.Lists.{take_none, take_place, slice_get-set_other}
+use Rattle.script_core.specs.declared.script.Script.{Script}
+use Rattle.script_workers.specs.Hands.{gateway_of, hands_of_task, own_hand}
+use Rattle.script_workers.specs.Works.{asking_of, asks_all}
 use Rattle.script_workers.specs.declared.hand.Hand.{Hand}
 use Rattle.script_workers.specs.declared.hand.Hand.TheVariants as hands
 use Rattle.script_workers.specs.declared.task.Task.{Task}
+use Rattle.script_workers.specs.declared.work.Asking.{Asking}
 use Rattle.script_workers.specs.declared.work.Work.{Work}
-use Rattle.script_workers.specs.declared.work.Work.TheVariants as works
 use Rattle.script_running.specs.Gathering.{AreTold, IsTakenAt, IsToldBy, laid_in, parts_at, slot_at, slot_in}
 use Rattle.script_running.specs.declared.gathering.Column.{Column}
 use Rattle.script_running.specs.declared.gathering.Slots.{Slots}
 use Rattle.script_running.specs.Outcomes.{Outcome, Part}
+use Rattle.script_running.specs.Reporting.{AddsTo}
 use Rattle.script_running.proofs.AllParts.{few_parts}
+use Rattle.script_running.proofs.Reporting.{adds_more, adds_none}
 use Rattle.script_running.proofs.Taking.{found, same_or, set_here}
 
 -- ---- one slot
@@ -129,29 +133,34 @@ told_more slots place (t ∷ tasks) task (p ∷ outcomes) o told is =
 
 -- ---- the parts of one task
 
-pub upload_parts : (slots : Slots) (place ulid : ℕ) (stop : Option ℕ) → laid_in (slot_at slots None place) ≡ parts_at slots place (works.Upload ulid stop)
-unfolding hands_of_task
-upload_parts slots place ulid stop = sym (append-nil (laid_in (slot_at slots None place)))
-
-pub compact_parts : (slots : Slots) (place : ℕ) (stop : Option ℕ) → laid_in (slot_at slots None place) ≡ parts_at slots place (works.Compact stop)
-unfolding hands_of_task
-compact_parts slots place stop = sym (append-nil (laid_in (slot_at slots None place)))
-
-pub clean_parts : (slots : Slots) (place : ℕ) (stop : Option ℕ) → laid_in (slot_at slots None place) ≡ parts_at slots place (works.Clean stop)
-unfolding hands_of_task
-clean_parts slots place stop = sym (append-nil (laid_in (slot_at slots None place)))
-
-pub sync_parts : (slots : Slots) (place gateway : ℕ) → laid_in (slot_at slots (Some gateway) place) ≡ parts_at slots place (works.Sync gateway)
-unfolding hands_of_task
-sync_parts slots place gateway = sym (append-nil (laid_in (slot_at slots (Some gateway) place)))
-
 over_gateways : (slots : Slots) (place : ℕ) (numbers : List ℕ) → flat_map (λ gateway. laid_in (slot_at slots (Some gateway) place)) numbers ≡ flat_map (λ hand. laid_in (slot_at slots (gateway_of hand) place)) (map hands.Gateway numbers)
 over_gateways slots place [] = refl
 over_gateways slots place (n ∷ numbers) = ap (λ (l : List Part). laid_in (slot_at slots (Some n) place) ++ l) (over_gateways slots place numbers)
 
-pub asked_parts : (slots : Slots) (place : ℕ) (low high : ℤ) (selector : ℕ) → flat_map (λ gateway. laid_in (slot_at slots (Some gateway) place)) (range_with_len 0 (length slots.gateways.items)) ≡ parts_at slots place (works.Query low high selector)
+-- what asks all gateways
+asked_parts : (slots : Slots) (place : ℕ) (w : Work) → asks_all w ≡ true → flat_map (λ gateway. laid_in (slot_at slots (Some gateway) place)) (range_with_len 0 (length slots.gateways.items)) ≡ parts_at slots place w
 unfolding hands_of_task
-asked_parts slots place low high selector = over_gateways slots place (range_with_len 0 (length slots.gateways.items))
+asked_parts slots place w asks =
+    subst (λ (b : Bool). flat_map (λ gateway. laid_in (slot_at slots (Some gateway) place)) (range_with_len 0 (length slots.gateways.items))
+    ≡ flat_map (λ hand. laid_in (slot_at slots (gateway_of hand) place)) (if b then map hands.Gateway (range_with_len 0 (length slots.gateways.items)) else own_hand place w ∷ [])) (sym asks) (over_gateways slots place (range_with_len 0 (length slots.gateways.items)))
+
+-- what one worker does
+own_parts : (slots : Slots) (place : ℕ) (w : Work) → asks_all w ≡ false → laid_in (slot_at slots (gateway_of (own_hand place w)) place) ≡ parts_at slots place w
+unfolding hands_of_task
+own_parts slots place w alone =
+    subst (λ (b : Bool). laid_in (slot_at slots (gateway_of (own_hand place w)) place)
+    ≡ flat_map (λ hand. laid_in (slot_at slots (gateway_of hand) place)) (if b then map hands.Gateway (range_with_len 0 (length slots.gateways.items)) else own_hand place w ∷ [])) (sym alone) (sym (append-nil (laid_in (slot_at slots (gateway_of (own_hand place w)) place))))
+
+module _ {V E : Type 0} (items : V → List Part) (slots : Slots) (place : ℕ) (w : Work) where
+  pub all_taken : (r : Result V E) (asked : Option Asking) → asked ≡ asking_of w → is_some asked ≡ true
+      → IfOk r (λ v. items v ≡ flat_map (λ (gateway : ℕ). laid_in (slot_at slots (Some gateway) place)) (range_with_len 0 (length slots.gateways.items))) → IfOk r (λ v. items v ≡ parts_at slots place w)
+  all_taken (Ok v) asked same some are = are ∙ asked_parts slots place w (ap is_some (sym same) ∙ some)
+  all_taken (Err e) asked same some are = tt
+
+  pub one_taken : (r : Result V E) (asked : Option Asking) (gateway : Option ℕ) → asked ≡ asking_of w → is_some asked ≡ false → gateway ≡ gateway_of (own_hand place w)
+      → IfOk r (λ v. items v ≡ laid_in (slot_at slots gateway place)) → IfOk r (λ v. items v ≡ parts_at slots place w)
+  one_taken (Ok v) asked gateway same none own are = are ∙ ap (λ (g : Option ℕ). laid_in (slot_at slots g place)) own ∙ own_parts slots place w (ap is_some (sym same) ∙ none)
+  one_taken (Err e) asked gateway same none own are = tt
 
 range_more : (gateway : ℕ) → range_with_len 0 (gateway + 1) ≡ range_with_len 0 gateway ++ gateway ∷ []
 range_more gateway =
@@ -186,50 +195,30 @@ parts_few slots place w few =
     let all = hands_few slots place (hands_of_task (length slots.gateways.items) place w) in
     omega (arith, most, all)
 
--- ---- the parts that were taken, by who does the task
+-- the part of one worker, where there were none before
+pub one_laid : (slots : Slots) (place : ℕ) (gateway own : Option ℕ) (parts before : List Part) → gateway ≡ own → before ≡ [] → parts ≡ before ++ laid_in (slot_at slots own place) → parts ≡ laid_in (slot_at slots gateway place)
+one_laid slots place gateway own parts before is none are = are ∙ ap (λ (l : List Part). l ++ laid_in (slot_at slots own place)) none ∙ ap (λ (g : Option ℕ). laid_in (slot_at slots g place)) (sym is)
 
-of_upload : (slots : Slots) (place ulid : ℕ) (stop : Option ℕ) (w : Work) (parts before : List Part) → w ≡ works.Upload ulid stop → before ≡ [] → parts ≡ before ++ laid_in (slice_get slots.alone.slots.items place) → parts ≡ parts_at slots place w
-of_upload slots place ulid stop w parts before is none are =
-    are ∙ ap (λ (l : List Part). l ++ laid_in (slice_get slots.alone.slots.items place)) none ∙ upload_parts slots place ulid stop ∙ ap (parts_at slots place) (sym is)
+-- ---- what the report tells
 
-of_compact : (slots : Slots) (place : ℕ) (stop : Option ℕ) (w : Work) (parts before : List Part) → w ≡ works.Compact stop → before ≡ [] → parts ≡ before ++ laid_in (slice_get slots.alone.slots.items place) → parts ≡ parts_at slots place w
-of_compact slots place stop w parts before is none are =
-    are ∙ ap (λ (l : List Part). l ++ laid_in (slice_get slots.alone.slots.items place)) none ∙ compact_parts slots place stop ∙ ap (parts_at slots place) (sym is)
+module _ {P : Type 0} (tells : P → Script → List Task → List Outcome → Type 0) (script : Script) (slots : Slots) (tasks : List Task) (first : P) where
+  -- the first tasks, by their parts, and by the report
+  abbrev pub ToldTo : ℕ → P → Type 0
+  ToldTo place report = (own : List Outcome) × AreTold slots 0 (take place tasks) own × AddsTo tells script (take place tasks) own first report
 
-of_clean : (slots : Slots) (place : ℕ) (stop : Option ℕ) (w : Work) (parts before : List Part) → w ≡ works.Clean stop → before ≡ [] → parts ≡ before ++ laid_in (slice_get slots.alone.slots.items place) → parts ≡ parts_at slots place w
-of_clean slots place stop w parts before is none are =
-    are ∙ ap (λ (l : List Part). l ++ laid_in (slice_get slots.alone.slots.items place)) none ∙ clean_parts slots place stop ∙ ap (parts_at slots place) (sym is)
+  pub told_none : ToldTo 0 first
+  told_none = let none = subst (λ (ts : List Task). AreTold slots 0 ts [] × AddsTo tells script ts [] first first) (sym (take_none tasks)) (refl, adds_none tells script first) in ([], none.0, none.1)
 
--- of an upload, a compaction or a cleaning
-pub of_alone : (slots : Slots) (place : ℕ) (w : Work) (parts before : List Part)
-    → ((ulid : ℕ) × (stop : Option ℕ) × (w ≡ works.Upload ulid stop)) ⊎ (((stop : Option ℕ) × (w ≡ works.Compact stop)) ⊎ ((stop : Option ℕ) × (w ≡ works.Clean stop)))
-    → before ≡ [] → parts ≡ before ++ laid_in (slice_get slots.alone.slots.items place) → parts ≡ parts_at slots place w
-of_alone slots place w parts before (inl (ulid, stop, is)) none are = of_upload slots place ulid stop w parts before is none are
-of_alone slots place w parts before (inr (inl (stop, is))) none are = of_compact slots place stop w parts before is none are
-of_alone slots place w parts before (inr (inr (stop, is))) none are = of_clean slots place stop w parts before is none are
+  pub told_all : (place : ℕ) (report : P) → length tasks ≤ place → ToldTo place report → (own : List Outcome) × AreTold slots 0 tasks own × AddsTo tells script tasks own first report
+  told_all place report all told = let whole = subst (λ (ts : List Task). AreTold slots 0 ts told.0 × AddsTo tells script ts told.0 first report) (take_all place tasks all) (told.1, told.2) in (told.0, whole.0, whole.1)
 
-pub of_sync : (slots : Slots) (place gateway : ℕ) (w : Work) (parts before : List Part) → w ≡ works.Sync gateway → before ≡ [] → parts ≡ before ++ laid_in (slot_at slots (Some gateway) place) → parts ≡ parts_at slots place w
-of_sync slots place gateway w parts before is none are =
-    are ∙ ap (λ (l : List Part). l ++ laid_in (slot_at slots (Some gateway) place)) none ∙ sync_parts slots place gateway ∙ ap (parts_at slots place) (sym is)
-
-pub of_query : (slots : Slots) (place : ℕ) (low high : ℤ) (selector : ℕ) (w : Work) (parts : List Part) (number : ℕ) → w ≡ works.Query low high selector → number ≡ length slots.gateways.items
-    → parts ≡ flat_map (λ (n : ℕ). laid_in (slot_at slots (Some n) place)) (range_with_len 0 number) → parts ≡ parts_at slots place w
-of_query slots place low high selector w parts number is all are =
-    are ∙ ap (λ (n : ℕ). flat_map (λ (k : ℕ). laid_in (slot_at slots (Some k) place)) (range_with_len 0 n)) all ∙ asked_parts slots place low high selector ∙ ap (parts_at slots place) (sym is)
-
--- the tasks so far, and the next one
-pub told_next : (slots now : Slots) (place : ℕ) (tasks : List Task) (task : Task) (before outcomes after : List Outcome) → AreLeftFrom place slots now → place < length tasks → task ≡ get_or tasks place task
-    → (own : List Outcome) × (outcomes ≡ before ++ own) × AreTold slots 0 (take place tasks) own → (o : Outcome) × (after ≡ outcomes ++ o ∷ []) × IsToldBy task.work (parts_at now place task.work) o
-    → (own : List Outcome) × (after ≡ before ++ own) × AreTold slots 0 (take (place + 1) tasks) own
-told_next slots now place tasks task before outcomes after left within value told one =
-    let here : place ≡ 0 + length (take place tasks) = omega (arith, length-take place tasks, within) in
-    let by : IsToldBy task.work (parts_at slots place task.work) one.0 = subst (λ (l : List Part). IsToldBy task.work l one.0) (parts_left place slots now task.work left) one.2 in (
-      told.0 ++ one.0 ∷ [],
-      one.1 ∙ ap (λ (l : List Outcome). l ++ one.0 ∷ []) told.1 ∙ append_assoc before told.0 (one.0 ∷ []),
-      subst (λ (l : List Task). AreTold slots 0 l (told.0 ++ one.0 ∷ [])) (sym (take_place tasks place task (found tasks place place task refl within value)))
-          (told_more slots 0 (take place tasks) task told.0 one.0 told.2 (subst (λ (n : ℕ). IsToldBy task.work (parts_at slots n task.work) one.0) here by)),
-    )
-
-pub tasks_next : (before tasks : List Task) (place : ℕ) (task : Task) → place < length tasks → task ≡ get_or tasks place task → (before ++ take place tasks) ++ task ∷ [] ≡ before ++ take (place + 1) tasks
-tasks_next before tasks place task within value =
-    append_assoc before (take place tasks) (task ∷ []) ∙ ap (λ (l : List Task). before ++ l) (sym (take_place tasks place task (found tasks place place task refl within value)))
+  -- the tasks so far, and the next one
+  pub told_next : (now : Slots) (place : ℕ) (task : Task) (old new : P) → AreLeftFrom place slots now → place < length tasks → task ≡ get_or tasks place task → ToldTo place old
+      → (o : Outcome) × IsToldBy task.work (parts_at now place task.work) o × AddsTo tells script (task ∷ []) (o ∷ []) old new → ToldTo (place + 1) new
+  told_next now place task old new left within value told one =
+      let here : place ≡ 0 + length (take place tasks) = omega (arith, length-take place tasks, within) in
+      let by : IsToldBy task.work (parts_at slots place task.work) one.0 = subst (λ (l : List Part). IsToldBy task.work l one.0) (parts_left place slots now task.work left) one.1 in
+      let more = told_more slots 0 (take place tasks) task told.0 one.0 told.1 (subst (λ (n : ℕ). IsToldBy task.work (parts_at slots n task.work) one.0) here by) in
+      let adds = adds_more tells script (take place tasks) (task ∷ []) told.0 (one.0 ∷ []) first old new told.2 one.2 in
+      let both = subst (λ (l : List Task). AreTold slots 0 l (told.0 ++ one.0 ∷ []) × AddsTo tells script l (told.0 ++ one.0 ∷ []) first new) (sym (take_place tasks place task (found tasks place place task refl within value))) (more, adds) in
+      (told.0 ++ one.0 ∷ [], both.0, both.1)

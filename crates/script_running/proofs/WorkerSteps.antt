@@ -1,6 +1,6 @@
 -- A worker's tasks, one after another.
-use Rattle.std.proofs.Common.{◌≡◌, ◌||◌, Bool, true, false, ℕ, zero, suc, ◌+◌, ◌<◌, List, [], ◌∷◌, ◌++◌, length, take, drop, get_or, refl, sym, ◌∙◌, ap, subst, inl, inr, append_assoc, arith}
-use Rattle.std.specs.Prelude.{Option, Some, None, Ok, Err, Result, IfSome, slice_get}
+use Rattle.std.proofs.Common.{◌≡◌, true, ℕ, zero, suc, ◌+◌, ◌<◌, List, [], ◌∷◌, ◌++◌, length, take, drop, get_or, refl, sym, ◌∙◌, ap, subst, inl, inr, append_assoc, arith}
+use Rattle.std.specs.Prelude.{Option, Some, None, Ok, Err, Result, slice_get}
 use Rattle.std.specs.List.{All}
 use Rattle.std.proofs.lemmas.List.{append-nil, length-append, take_more}
 use Rattle.std.proofs.lemmas.Option.{slice_get-get_or}
@@ -24,7 +24,6 @@ use Rattle.script_running.specs.declared.came.Broken.{Broken}
 use Rattle.script_running.specs.declared.came.Broken.TheVariants as broken
 use Rattle.script_running.specs.declared.sight.Sight.{Sight}
 use Rattle.script_running.specs.declared.worker.WorkerEnd.{WorkerEnd}
-use Rattle.base.proofs.Bools.{or_false}
 use Rattle.base.proofs.Membership.{All-place}
 use Rattle.base.proofs.Lists.{slice_get-below}
 
@@ -168,7 +167,7 @@ module _ (setting : Setting) (tasks : List Task) (who : Who) (places : List ℕ)
   none_by work (Some end) broken.NoMemory by = absurd by
 
   cut_off : (more : List Assigned) (why : Broken) → All (λ (a : Assigned). MayBegin setting a.task.work) more → (d : HasDone setting who place task.work w.next seat mid new sight (Err why))
-      → IsBrokenOff setting who seat before (w.own ++ this ∷ more) (w.made ++ d.made) (w.ends ++ []) (Err why)
+      → IsBrokenOff (OwnRun setting who before (w.own ++ this ∷ more)) (length (w.own ++ this ∷ more)) seat (w.made ++ d.made) (w.ends ++ []) (Err why)
   cut_off more broken.NoMemory begin d = tt
   cut_off more broken.Full begin d = (
     omega (arith, length-append w.own (this ∷ more), length-append w.ends [], w.whole),
@@ -196,7 +195,7 @@ module _ (setting : Setting) (tasks : List Task) (who : Who) (places : List ℕ)
     run = cut_run more d.made d.end d.after d.run (none_by task.work d.end why d.by);
     parts = subst (AreParts (w.own ++ this ∷ more) (w.ends ++ [])) (sym told) (subst (λ (es : List End). AreParts (w.own ++ this ∷ more) es parts) (sym (append-nil w.ends)) (parts_on w.own (this ∷ more) w.ends parts w.told));
     sees = subst (λ (r : Result (Unit {0}) Broken). WhenDone r (Sees d.after end.sight)) (sym came) tt;
-    broken = subst (IsBrokenOff setting who seat before (w.own ++ this ∷ more) (w.made ++ d.made) (w.ends ++ [])) (sym came) (cut_off more why begin d);
+    broken = subst (IsBrokenOff (OwnRun setting who before (w.own ++ this ∷ more)) (length (w.own ++ this ∷ more)) seat (w.made ++ d.made) (w.ends ++ [])) (sym came) (cut_off more why begin d);
   }
 
 -- all tasks were done
@@ -216,7 +215,7 @@ all_worked setting tasks who places all before seat old new sight parts end is t
       (w.onward [] [] [] w.next (λ all. (refl, refl, refl)))));
   parts = subst (AreParts w.own w.ends) (sym told) w.told;
   sees = subst (λ (r : Result (Unit {0}) Broken). WhenDone r (Sees w.next end.sight)) (sym came) (subst (Sees w.next) (sym same) w.sees);
-  broken = subst (IsBrokenOff setting who seat before w.own w.made w.ends) (sym came) w.whole;
+  broken = subst (IsBrokenOff (OwnRun setting who before w.own) (length w.own) seat w.made w.ends) (sym came) w.whole;
 }
 
 -- ---- where nothing was done
@@ -249,7 +248,7 @@ none_done setting tasks who places before seat journal end lawful allowed within
       run = none_run setting who before own.0 begin;
       parts = told;
       sees = subst (λ (r : Result (Unit {0}) Broken). WhenDone r (Sees before end.sight)) (sym came) tt;
-      broken = subst (IsBrokenOff setting who seat before own.0 [] []) (sym came) tt;
+      broken = subst (IsBrokenOff (OwnRun setting who before own.0) (length own.0) seat [] []) (sym came) tt;
     }
 
 -- ---- a turn of the loop

@@ -1,6 +1,6 @@
 -- Phases whose workers were joined: what each worker made, and what it holds last.
 use Rattle.std.specs.Prelude.{◌≡◌, ◌≢◌, ℕ, ◌+◌, List, [], ◌∷◌, map, All, Contains, Some}
-use Rattle.std.specs.List.{AllByRecursion, AllZip}
+use Rattle.std.specs.List.{AllByRecursion}
 use Rattle.world_core.specs.declared.entry.Entry.{Entry}
 use Rattle.script_core.specs.Workers.{workers_of}
 use Rattle.script_workers.specs.declared.phase.Phase.{Phase}
@@ -16,24 +16,37 @@ use Rattle.lifecycle_core.specs.Ways.{BeginsPhase}
 use Rattle.script_running.specs.Cutting.{Passed}
 use Rattle.script_running.specs.Workers.{OwnRun}
 
--- What was kept of a worker's seat are the runs of its tasks, which came to these ends. Last it holds this.
-pub record WasKept (setting : Setting) (tasks : List Task) (before : Holdings) (worker : Worker) (kept : ℕ × List Entry) (ends : List End) (last : Holding) : Type 0 where
-  pub seat : kept.0 ≡ worker.seat
-  pub own : List Assigned
-  pub are : TasksAt tasks worker.tasks own
-  pub run : OwnRun setting (who_of worker) (holding_of before worker.gateway) own kept.1 ends last
+-- What a worker of a phase made: what was kept of its seat, the ends to which its tasks came, and what it holds last.
+pub record Made : Type 0 where
+  pub worker : Worker
+  pub kept : ℕ × List Entry
+  pub ends : List End
+  pub last : Holding
 
--- worker by worker
-abbrev pub WereKept : Setting → List Task → Holdings → List Worker → List (ℕ × List Entry) → List (List End) → List Holding → Type 0
-WereKept setting tasks before [] [] [] [] = Unit {0}
-WereKept setting tasks before (worker ∷ workers) (kept ∷ more) (own ∷ ends) (last ∷ lasts) =
-    WasKept setting tasks before worker kept own last × WereKept setting tasks before workers more ends lasts
-WereKept setting tasks before workers kept ends lasts = ⊥
+abbrev pub workers_in : List Made → List Worker
+workers_in made = map (λ (one : Made). one.worker) made
+
+abbrev pub kept_in : List Made → List (ℕ × List Entry)
+kept_in made = map (λ (one : Made). one.kept) made
+
+abbrev pub ends_in : List Made → List (List End)
+ends_in made = map (λ (one : Made). one.ends) made
+
+-- What was kept of its seat are the runs of its tasks, which came to these ends.
+pub record WasKept (setting : Setting) (tasks : List Task) (before : Holdings) (one : Made) : Type 0 where
+  pub seat : one.kept.0 ≡ one.worker.seat
+  pub own : List Assigned
+  pub are : TasksAt tasks one.worker.tasks own
+  pub run : OwnRun setting (who_of one.worker) (holding_of before one.worker.gateway) own one.kept.1 one.ends one.last
+
+-- each worker's
+abbrev pub WereKept : Setting → List Task → Holdings → List Made → Type 0
+WereKept setting tasks before made = AllByRecursion (WasKept setting tasks before) made
 
 -- gateways hold after a phase what their workers hold last, and those without a worker what they held
-pub record AreLeft (before : Holdings) (workers : List Worker) (lasts : List Holding) (after : Holdings) : Type 0 where
-  pub own : AllZip (λ worker last. (gateway : ℕ) → worker.gateway ≡ Some gateway → after gateway ≡ last) workers lasts
-  pub others : (gateway : ℕ) → All (λ (worker : Worker). worker.gateway ≢ Some gateway) workers → after gateway ≡ before gateway
+pub record AreLeft (before : Holdings) (made : List Made) (after : Holdings) : Type 0 where
+  pub own : AllByRecursion (λ (one : Made). (gateway : ℕ) → one.worker.gateway ≡ Some gateway → after gateway ≡ one.last) made
+  pub others : (gateway : ℕ) → All (λ (worker : Worker). worker.gateway ≢ Some gateway) (workers_in made) → after gateway ≡ before gateway
 
 -- A phase was begun. Whatever entries its workers made, if those of each seat are what was kept of it, they are a run of the phase, which
 -- came to these ends.

@@ -1,5 +1,5 @@
 -- What a worker's part of a task comes to, and what drives of its machine come to.
-use Rattle.std.specs.Prelude.{Option, Some, Result, Ok, Err}
+use Rattle.std.specs.Prelude.{ℕ, Option, Some, Result, Ok, Err}
 use Rattle.world_core.specs.declared.driving.Driven.{Driven}
 use Rattle.world_core.specs.declared.driving.Driven.TheVariants as driven
 use Rattle.shipper.specs.declared.upload.UploadEnd.{UploadEnd}
@@ -53,9 +53,9 @@ compact_came driven = came_by (λ end. part.Compact end) (stop_of driven)
 abbrev pub clean_came : Driven CleanEnd → Result Part Broken
 clean_came driven = came_by (λ end. part.Clean end) (stop_of driven)
 
--- a gateway's part of a query
-abbrev pub call_came : Driven CallLeft → Result Part Broken
-call_came driven = came_by (λ left. part.Query (call_part left.end)) (driven_end driven)
+-- a gateway's part of a query, over a view with this first entry
+abbrev pub call_came : ℕ → Driven CallLeft → Result Part Broken
+call_came first driven = came_by (λ left. part.Query (call_part first left.end)) (driven_end driven)
 
 -- the ranges that are kept after its call
 abbrev pub cache_by : Option IndexCache → Driven CallLeft → Option IndexCache

@@ -1,19 +1,19 @@
 -- The workers of a phase, as they were sent and as they came back.
-use Rattle.std.specs.Prelude.{◌≡◌, ℕ, ◌+◌, List, [], ◌∷◌, Err}
+use Rattle.std.specs.Prelude.{◌≡◌, ℕ, ◌+◌, List, [], ◌∷◌, length, Err}
+use Rattle.std.specs.List.{AllZip}
 use mathlib.Core.List.{IsPrefix}
 use Rattle.world_core.specs.Keeping.{IsFull}
 use Rattle.world_core.specs.declared.entry.Entry.{Entry}
 use Rattle.script_workers.specs.declared.task.Task.{Task}
 use Rattle.script_workers.specs.declared.worker.Worker.{Worker}
 use Rattle.lifecycle_core.specs.Conducts.{who_of}
-use Rattle.lifecycle_core.specs.Holdings.{Holding, Holdings, holding_of}
+use Rattle.lifecycle_core.specs.Holdings.{Holdings, holding_of}
 use Rattle.lifecycle_core.specs.Setting.{Setting}
-use Rattle.lifecycle_core.specs.Tasks.{End}
-use Rattle.script_running.specs.Begun.{WasKept}
+use Rattle.script_running.specs.Begun.{Made, WasKept}
 use Rattle.script_running.specs.Lending.{Loan}
 use Rattle.script_running.specs.Sights.{Sees}
 use Rattle.script_running.specs.Tasks.{WhenDone}
-use Rattle.script_running.specs.Workers.{AreParts, IsBrokenOff, Post}
+use Rattle.script_running.specs.Workers.{AreParts, IsBrokenOff, OwnRun, Post}
 use Rattle.script_running.specs.declared.came.Broken.TheVariants as broken
 use Rattle.script_running.specs.declared.worker.WorkerEnd.{WorkerEnd}
 
@@ -31,16 +31,13 @@ AreInRow seat (worker ∷ workers) = (worker.seat ≡ seat) × AreInRow (seat + 
 
 -- A worker was joined. What was kept of its seat are its runs, and by them it came back so. Where the full journal broke it off, a
 -- front that the root has seen is full.
-pub record HasEnded (setting : Setting) (tasks : List Task) (before : Holdings) (front : List Entry) (worker : Worker) (kept : ℕ × List Entry) (end : WorkerEnd) (ends : List End) (last : Holding) : Type 0 where
-  pub was : WasKept setting tasks before worker kept ends last
-  pub parts : AreParts was.own ends end.parts.items
-  pub sees : WhenDone end.came (Sees last end.sight)
-  pub cut : IsBrokenOff setting (who_of worker) worker.seat (holding_of before worker.gateway) was.own kept.1 ends end.came
+pub record HasEnded (setting : Setting) (tasks : List Task) (before : Holdings) (front : List Entry) (one : Made) (end : WorkerEnd) : Type 0 where
+  pub was : WasKept setting tasks before one
+  pub parts : AreParts was.own one.ends end.parts.items
+  pub sees : WhenDone end.came (Sees one.last end.sight)
+  pub cut : IsBrokenOff (OwnRun setting (who_of one.worker) (holding_of before one.worker.gateway) was.own) (length was.own) one.worker.seat one.kept.1 one.ends end.came
   pub full : end.came ≡ Err broken.Full → (seen : List Entry) × IsPrefix seen front × IsFull seen
 
 -- worker by worker
-abbrev pub HaveEnded : Setting → List Task → Holdings → List Entry → List Worker → List (ℕ × List Entry) → List WorkerEnd → List (List End) → List Holding → Type 0
-HaveEnded setting tasks before front [] [] [] [] [] = Unit {0}
-HaveEnded setting tasks before front (worker ∷ workers) (kept ∷ more) (end ∷ others) (own ∷ ends) (last ∷ lasts) =
-    HasEnded setting tasks before front worker kept end own last × HaveEnded setting tasks before front workers more others ends lasts
-HaveEnded setting tasks before front workers kept others ends lasts = ⊥
+abbrev pub HaveEnded : Setting → List Task → Holdings → List Entry → List Made → List WorkerEnd → Type 0
+HaveEnded setting tasks before front made others = AllZip (HasEnded setting tasks before front) made others

@@ -1,10 +1,11 @@
 -- What a phase comes to, once the ends of its workers are laid together.
-use Rattle.std.specs.Prelude.{◌≡◌, ◌≢◌, ◌⊎◌, ℕ, ◌+◌, ◌<◌, List, [], ◌∷◌, ◌++◌, length, All, Contains, Option, Some, None, IsSome, Result, Ok, Err, slice_get}
+use Rattle.std.specs.Prelude.{◌≡◌, ◌≢◌, ◌⊎◌, ℕ, ◌+◌, ◌<◌, List, [], ◌∷◌, length, All, Contains, Option, Some, None, IsSome, Result, Ok, Err, slice_get}
 use Rattle.std.specs.List.{flat_map, zip}
-use mathlib.Core.List.{IsPrefix}
+use Rattle.world_core.specs.declared.entry.Entry.{Entry}
 use Rattle.script_core.specs.Lawful.{IsLawfulScript}
 use Rattle.script_core.specs.Workers.{workers_of}
-use Rattle.script_workers.specs.Hands.{gateway_of, hands_of_task}
+use Rattle.script_core.specs.declared.script.Script.{Script}
+use Rattle.script_workers.specs.Hands.{gateway_count, gateway_of, hands_of_task}
 use Rattle.script_workers.specs.declared.phase.Phase.{Phase}
 use Rattle.script_workers.specs.declared.task.Task.{Task}
 use Rattle.script_workers.specs.declared.work.Work.{Work}
@@ -12,16 +13,19 @@ use Rattle.script_workers.specs.declared.worker.Worker.{Worker}
 use Rattle.lifecycle_core.specs.Conducts.{AreDone}
 use Rattle.lifecycle_core.specs.Holdings.{Holdings}
 use Rattle.lifecycle_core.specs.Setting.{Setting}
-use Rattle.lifecycle_core.specs.Tasks.{End}
+use Rattle.script_running.specs.Begun.{AreLeft, Made, ends_in, workers_in}
 use Rattle.script_running.specs.Beside.{AreSeen}
+use Rattle.script_running.specs.Ended.{HaveEnded}
 use Rattle.script_running.specs.Going.{Met}
 use Rattle.script_running.specs.Outcomes.{AreAllParts, IsOutcomeOf, Outcome, Part, TasksCame}
+use Rattle.script_running.specs.Reporting.{AddsTo}
 use Rattle.script_running.specs.Sights.{Sees, no_sight}
 use Rattle.script_running.specs.declared.came.Broken.{Broken}
 use Rattle.script_running.specs.declared.came.Broken.TheVariants as broken
 use Rattle.script_running.specs.declared.gathering.Column.{Column}
 use Rattle.script_running.specs.declared.gathering.Slots.{Slots}
 use Rattle.script_running.specs.declared.gathering.Staffed.{Staffed}
+use Rattle.script_running.specs.declared.progress.Progress.{Progress}
 use Rattle.script_running.specs.declared.sight.Sight.{Sight}
 use Rattle.script_running.specs.declared.worker.WorkerEnd.{WorkerEnd}
 
@@ -29,24 +33,37 @@ use Rattle.script_running.specs.declared.worker.WorkerEnd.{WorkerEnd}
 abbrev pub AreSeenBeside : Holdings → List Worker → List Sight → Type 0
 AreSeenBeside held workers sights = (place : ℕ) (sight : Sight) → slice_get sights place ≡ Some sight → All (λ (w : Worker). w.gateway ≢ Some place) workers → Sees (held place) sight
 
--- All workers came to all their ends: gateways see what they hold after the phase, and the outcomes of its tasks were added in the order
--- of the lines. Or no outcome was added: a worker met the full journal, or memory was wanting and none of them met it.
-abbrev pub Gathers : Setting → Phase → List Worker → List (List End) → List WorkerEnd → Holdings → List Sight → List Outcome → List Outcome → Result (Unit {0}) Broken → Type 0
-Gathers setting phase workers ends others after sights old new (Ok done) =
-    AreDone workers ends × AreSeen after sights × ((own : List Outcome) × (new ≡ old ++ own) × TasksCame setting.script workers ends 0 phase.tasks own)
-Gathers setting phase workers ends others after sights old new (Err why) =
-    (new ≡ old) × Met why others
+-- A phase whose workers were joined: what each of them made.
+pub record Joined : Type 0 where
+  pub number : ℕ
+  pub phase : Phase
+  -- what gateways hold before the phase, and after it
+  pub before : Holdings
+  pub after : Holdings
+  -- what the root has seen of the journal
+  pub front : List Entry
+  pub made : List Made
 
--- the phase of this number, and the workers who do its tasks
-pub record IsPhaseOf (setting : Setting) (number : ℕ) (phase : Phase) (staffed : Staffed) : Type 0 where
+-- These are the workers of the phase of the setting, who came back so. Gateways without a worker in it see by what they hold.
+pub record AreJoined (setting : Setting) (staffed : Staffed) (others : List WorkerEnd) (sights : List Sight) (one : Joined) : Type 0 where
   pub lawful : IsLawfulScript setting.script
-  pub at : slice_get setting.script.phases number ≡ Some phase
-  pub tasks : staffed.tasks.now ≡ phase.tasks
-  pub workers : staffed.workers.now ≡ workers_of setting.script number
+  pub script_is : staffed.script.now ≡ setting.script
+  pub at : slice_get setting.script.phases one.number ≡ Some one.phase
+  pub tasks : staffed.tasks.now ≡ one.phase.tasks
+  pub workers : workers_in one.made ≡ staffed.workers.now
+  pub staff : staffed.workers.now ≡ workers_of setting.script one.number
+  pub counted : length sights ≡ gateway_count setting.script.gateways
+  pub have : HaveEnded setting one.phase.tasks one.before one.front one.made others
+  pub left : AreLeft one.before one.made one.after
+  pub beside : AreSeenBeside one.before staffed.workers.now sights
 
--- outcomes were added, or none
-abbrev pub AreMore : List Outcome → List Outcome → Type 0
-AreMore old new = IsPrefix old new
+-- All workers of the phase came to all their ends: gateways see what they hold after it, and the report tells of its tasks too.
+pub record HasGathered {P : Type 0} (tells : P → Script → List Task → List Outcome → Type 0) (setting : Setting) (one : Joined) (old new : Progress P) : Type 0 where
+  pub done : AreDone (workers_of setting.script one.number) (ends_in one.made)
+  pub seen : AreSeen one.after new.sights.items
+  pub own : List Outcome
+  pub came : TasksCame setting.script (workers_of setting.script one.number) (ends_in one.made) 0 one.phase.tasks own
+  pub told : AddsTo tells setting.script one.phase.tasks own old.report new.report
 
 -- ---- before the phase
 

@@ -9,19 +9,23 @@ use Rattle.world_core.specs.declared.seen.Seen.{Seen}
 use Rattle.world_turn.specs.Turns.{Acts}
 use Rattle.world_turn.specs.declared.view.View.{View as Known}
 use Rattle.script_core.specs.Workers.{workers_of}
+use Rattle.script_core.specs.declared.script.Script.{Script}
 use Rattle.script_workers.specs.declared.phase.Phase.{Phase}
-use Rattle.lifecycle_core.specs.Holdings.{Holding, Holdings, none_held}
+use Rattle.script_workers.specs.declared.task.Task.{Task}
+use Rattle.lifecycle_core.specs.Holdings.{Holdings, none_held}
 use Rattle.lifecycle_core.specs.Phases.{by_workers}
 use Rattle.lifecycle_core.specs.Setting.{Setting}
 use Rattle.lifecycle_core.specs.Tasks.{End}
 use Rattle.lifecycle_core.specs.Ways.{AreFinished, BeginsPhase}
-use Rattle.script_running.specs.Begun.{WereBegun}
+use Rattle.script_running.specs.Begun.{Made, WereBegun, kept_in, workers_in}
 use Rattle.script_running.specs.Beside.{AreSeen}
 use Rattle.script_running.specs.Cutting.{KnowsPhases, Passed}
 use Rattle.script_running.specs.Ended.{AreInRow, HaveEnded}
 use Rattle.script_running.specs.Outcomes.{Outcome, PhasesCame}
+use Rattle.script_running.specs.Reporting.{HasToldFirst, tasks_in}
 use Rattle.script_running.specs.declared.came.Broken.{Broken}
 use Rattle.script_running.specs.declared.came.Broken.TheVariants as broken
+use Rattle.script_running.specs.declared.progress.Progress.{Progress}
 use Rattle.script_running.specs.declared.sight.Sight.{Sight}
 use Rattle.script_running.specs.declared.worker.WorkerEnd.{WorkerEnd}
 
@@ -67,11 +71,12 @@ pub record HasBrokenOff (setting : Setting) (root : Known) (done : List Phase) (
   pub one : Passed
   pub begins : BeginsPhase phase one.clock
   pub others : List WorkerEnd
-  pub ends : List (List End)
-  pub lasts : List Holding
-  pub have : HaveEnded setting phase.tasks held root.front (workers_of setting.script (length done)) one.kept others ends lasts
+  pub made : List Made
+  pub workers : workers_in made ≡ workers_of setting.script (length done)
+  pub kept : kept_in made ≡ one.kept
+  pub have : HaveEnded setting phase.tasks held root.front made others
   pub seat : ℕ
-  pub row : AreInRow seat (workers_of setting.script (length done))
+  pub row : AreInRow seat (workers_in made)
   pub knows : KnowsPhases root (passed ++ one ∷ [])
   pub met : Met why others
 
@@ -95,7 +100,19 @@ pub record HasStopped (setting : Setting) (root : Known) (outcomes : List Outcom
   pub stands : (KnowsPhases root passed × IfFull why (HasSeenFull root))
       ⊎ (HasBrokenOff setting root done passed held phase why ⊎ ((why ≡ broken.NoMemory) × HasIdled setting root passed phase))
 
+-- Between two phases, where the report tells of the finished ones.
+pub record HasReached {P : Type 0} (tells : P → Script → List Task → List Outcome → Type 0) (setting : Setting) (root : Known) (done : List Phase) (progress : Progress P) : Type 0 where
+  pub outcomes : List Outcome
+  pub gone : HasGone setting root done progress.sights.items outcomes
+  pub told : tells progress.report setting.script (tasks_in done) outcomes
+
+-- A run that broke off, whose report tells of the finished phases. Where memory was wanting, some report did.
+pub record HasBroken {P : Type 0} (tells : P → Script → List Task → List Outcome → Type 0) (setting : Setting) (root : Known) (report : P) (why : Broken) : Type 0 where
+  pub outcomes : List Outcome
+  pub stopped : HasStopped setting root outcomes why
+  pub told : HasToldFirst tells setting.script report outcomes (Err why)
+
 -- what a run of these phases comes to, by what broke it off
-abbrev pub HasCome : Setting → Known → List Phase → List Sight → List Outcome → Result (Unit {0}) Broken → Type 0
-HasCome setting root done sights outcomes (Ok none) = HasGone setting root done sights outcomes
-HasCome setting root done sights outcomes (Err why) = HasStopped setting root outcomes why
+abbrev pub HasCome : {P : Type 0} → (P → Script → List Task → List Outcome → Type 0) → Setting → Known → List Phase → Progress P → Result (Unit {0}) Broken → Type 0
+HasCome tells setting root done progress (Ok none) = HasReached tells setting root done progress
+HasCome tells setting root done progress (Err why) = HasBroken tells setting root progress.report why

@@ -10,9 +10,9 @@ pub mod Cutting
 pub mod Begun
 pub mod Ended
 pub mod Beside
+pub mod Reporting
 pub mod Going
 pub mod Gathering
-pub mod Reporting
 pub use Rattle.world_core.specs.Machines
 pub use Rattle.world_core.specs.Keeping
 pub use Rattle.shipper

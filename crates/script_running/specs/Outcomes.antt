@@ -48,34 +48,48 @@ sync_outcome (fetched.Fault entry) = sync.Fault entry
 sync_outcome (fetched.Damaged entry) = sync.Damaged entry
 sync_outcome fetched.TooMany = sync.TooMany
 
--- how a gateway's call came out
-abbrev pub call_part : SeriesEnd → QueryPart
-call_part (called.Answer series sources) = given.Answer (answer series sources)
-call_part (called.Missing entry) = given.NoAnswer (none.Missing entry)
-call_part (called.Damaged entry) = given.NoAnswer (none.Damaged entry)
-call_part (called.Fault entry) = given.NoAnswer (none.Fault entry)
+-- how a gateway's call came out, over a view with this first entry
+abbrev pub call_part : ℕ → SeriesEnd → QueryPart
+call_part first (called.Answer series sources) = given.Answer (answer series sources) first
+call_part first (called.Missing entry) = given.NoAnswer (none.Missing entry) first
+call_part first (called.Damaged entry) = given.NoAnswer (none.Damaged entry) first
+call_part first (called.Fault entry) = given.NoAnswer (none.Fault entry) first
+
+-- a gateway's part of what all gateways are asked, by the end to which it came
+abbrev pub IsGatewayPart : End → Part → Type 0
+IsGatewayPart (answered used end) p = p ≡ came_to.Query (call_part used.view.first end)
+IsGatewayPart without_view p = p ≡ came_to.Query given.NoView
+IsGatewayPart not_asked p = p ≡ came_to.Query given.NotAsked
+-- it comes to no other end
+IsGatewayPart other p = ⊥
+
+-- what one worker does of a task that asks not all gateways, by the end to which it came: all of it
+abbrev pub IsOwnPart : Work → End → Part → Type 0
+IsOwnPart (work.Upload ulid count) (uploaded end) p = p ≡ came_to.Upload (stop.Ended end)
+IsOwnPart (work.Upload ulid count) (refused cause) p = p ≡ came_to.Unshipped cause
+IsOwnPart (work.Upload ulid count) (stopped at) p = p ≡ came_to.Upload (stop.At at)
+IsOwnPart (work.Sync gateway) (synced end) p = p ≡ came_to.Sync (sync_outcome end)
+IsOwnPart (work.Compact count) (compacted end) p = p ≡ came_to.Compact (stop.Ended end)
+IsOwnPart (work.Compact count) (stopped at) p = p ≡ came_to.Compact (stop.At at)
+IsOwnPart (work.Clean count) (cleaned end) p = p ≡ came_to.Clean (stop.Ended end)
+IsOwnPart (work.Clean count) (stopped at) p = p ≡ came_to.Clean (stop.At at)
+-- no other task comes to such an end
+IsOwnPart other end p = ⊥
+
+abbrev pub PartBy : Bool → Work → End → Part → Type 0
+PartBy true w = IsGatewayPart
+PartBy false w = IsOwnPart w
 
 -- A worker's part of a task, by the end to which it came.
 abbrev pub IsPart : Work → End → Part → Type 0
-IsPart (work.Upload ulid count) (uploaded end) p = p ≡ came_to.Upload (stop.Ended end)
-IsPart (work.Upload ulid count) (refused cause) p = p ≡ came_to.Unshipped cause
-IsPart (work.Upload ulid count) (stopped at) p = p ≡ came_to.Upload (stop.At at)
-IsPart (work.Sync gateway) (synced end) p = p ≡ came_to.Sync (sync_outcome end)
-IsPart (work.Compact count) (compacted end) p = p ≡ came_to.Compact (stop.Ended end)
-IsPart (work.Compact count) (stopped at) p = p ≡ came_to.Compact (stop.At at)
-IsPart (work.Clean count) (cleaned end) p = p ≡ came_to.Clean (stop.Ended end)
-IsPart (work.Clean count) (stopped at) p = p ≡ came_to.Clean (stop.At at)
-IsPart (work.Query low high selector) (answered used end) p = p ≡ came_to.Query (call_part end)
-IsPart (work.Query low high selector) without_view p = p ≡ came_to.Query (given.NoAnswer none.NoView)
-IsPart (work.Query low high selector) not_asked p = p ≡ came_to.Query given.NotAsked
--- no other task comes to such an end
-IsPart other end p = ⊥
+IsPart w = PartBy (asks_all w) w
 
 -- why a gateway gave no answer, if it was asked and gave none
 abbrev pub why_none : QueryPart → Option NoAnswer
 why_none given.NotAsked = None
-why_none (given.Answer own) = None
-why_none (given.NoAnswer why) = Some why
+why_none given.NoView = Some none.NoView
+why_none (given.Answer own first) = None
+why_none (given.NoAnswer why first) = Some why
 
 abbrev pub or_first : Option NoAnswer → ℕ → Option (ℕ × NoAnswer) → Option (ℕ × NoAnswer)
 or_first (Some why) gateway others = Some (gateway, why)
@@ -90,16 +104,18 @@ first_none gateway (one ∷ parts) = or_first (why_none one) gateway (first_none
 abbrev pub answers_of : List QueryPart → List Answer
 answers_of [] = []
 answers_of (given.NotAsked ∷ parts) = answers_of parts
-answers_of (given.Answer own ∷ parts) = own ∷ answers_of parts
-answers_of (given.NoAnswer why ∷ parts) = answers_of parts
+answers_of (given.NoView ∷ parts) = answers_of parts
+answers_of (given.Answer own first ∷ parts) = own ∷ answers_of parts
+answers_of (given.NoAnswer why first ∷ parts) = answers_of parts
 
 -- what gateways from a number on name, by their answers
 abbrev pub names_of : ℕ → List QueryPart → List Names
 names_of gateway [] = []
 names_of gateway (given.NotAsked ∷ parts) = names_of (gateway + 1) parts
-names_of gateway (given.Answer own ∷ parts) =
+names_of gateway (given.NoView ∷ parts) = names_of (gateway + 1) parts
+names_of gateway (given.Answer own first ∷ parts) =
     record { gateway = gateway; sources = own.sources } ∷ names_of (gateway + 1) parts
-names_of gateway (given.NoAnswer why ∷ parts) = names_of (gateway + 1) parts
+names_of gateway (given.NoAnswer why first ∷ parts) = names_of (gateway + 1) parts
 
 -- How a query comes out, by the parts of all gateways in their order: by the first that gave no answer, or else with the one answer
 -- that theirs make, and what each of them names.

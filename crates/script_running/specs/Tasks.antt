@@ -1,5 +1,5 @@
 -- What a worker's hand gains by one task, and what the task came to.
-use Rattle.std.specs.Prelude.{◌≡◌, ℕ, ℤ, Bool, true, false, List, ◌++◌, length, All, Option, Some, None, Result, Ok, Err}
+use Rattle.std.specs.Prelude.{◌≡◌, ℕ, Bool, true, false, List, ◌++◌, length, All, Option, Some, None, Result, Ok, Err}
 use Rattle.world_core.specs.declared.entry.Entry.{Entry}
 use Rattle.meta_fetcher.specs.declared.sync.SyncEnd.{SyncEnd}
 use Rattle.meta_fetcher.specs.declared.sync.SyncEnd.TheVariants as fetched
@@ -8,13 +8,12 @@ use Rattle.store_ranges.specs.Reads.{Query as Question}
 use Rattle.script_core.specs.Lawful.{IsLawfulWork}
 use Rattle.script_core.specs.declared.script.Script.{Script}
 use Rattle.script_workers.specs.declared.work.Work.{Work}
-use Rattle.script_workers.specs.declared.work.Work.TheVariants.{Query}
 use Rattle.lifecycle_core.specs.Conducts.{Who}
 use Rattle.lifecycle_core.specs.Holdings.{Holding}
 use Rattle.lifecycle_core.specs.Setting.{Setting}
 use Rattle.lifecycle_core.specs.Tasks.{End, QueryTask, TaskRun}
 use Rattle.lifecycle_core.specs.Ways.{IsDueAfter}
-use Rattle.script_running.specs.Outcomes.{IsPart, Part}
+use Rattle.script_running.specs.Outcomes.{IsGatewayPart, IsPart, Part}
 use Rattle.script_running.specs.Sights.{Sees}
 use Rattle.script_running.specs.declared.came.Broken.{Broken}
 use Rattle.script_running.specs.declared.came.Broken.TheVariants as broken
@@ -55,14 +54,18 @@ pub record Adds {E : Type 0} (is_run : List Entry → E → Type 0) (seat : ℕ)
   pub run : is_run made end
   pub due : WhenFull came (IsDueAfter is_run seat made)
 
--- A worker's part of a task comes to its end, or breaks off without one.
+-- A part comes to its end, or breaks off without one.
+abbrev pub CameAs : (End → Part → Type 0) → Option End → Result Part Broken → Type 0
+CameAs is_part (Some end) (Ok own) = is_part end own
+CameAs is_part (Some end) (Err broken.Full) = ⊥
+CameAs is_part (Some end) (Err broken.NoMemory) = ⊥
+CameAs is_part None (Ok own) = ⊥
+CameAs is_part None (Err broken.Full) = Unit {0}
+CameAs is_part None (Err broken.NoMemory) = Unit {0}
+
+-- a worker's part of a task
 abbrev pub CameBy : Work → Option End → Result Part Broken → Type 0
-CameBy work (Some end) (Ok own) = IsPart work end own
-CameBy work (Some end) (Err broken.Full) = ⊥
-CameBy work (Some end) (Err broken.NoMemory) = ⊥
-CameBy work None (Ok own) = ⊥
-CameBy work None (Err broken.Full) = Unit {0}
-CameBy work None (Err broken.NoMemory) = Unit {0}
+CameBy work = CameAs (IsPart work)
 
 -- the view that a sync leaves: a sync that came to none, or was broken off, leaves what was seen before
 abbrev pub view_by : Option View → Option SyncEnd → Option View
@@ -100,4 +103,4 @@ pub record HasAsked (before : Holding) (asked : Question) (seat : ℕ) (old new 
   pub after : Holding
   pub adds : Adds (Answers asked before) seat old new (end, after) came
   pub sees : WhenDone came (Sees after sight)
-  pub by : (low high : ℤ) (selector : ℕ) → CameBy (Query low high selector) end came
+  pub by : CameAs IsGatewayPart end came

@@ -49,13 +49,12 @@ AreParts (task ∷ own) (end ∷ ends) (one ∷ parts) =
 abbrev pub OwnRun : Setting → Who → Holding → List Assigned → List Entry → List End → Holding → Type 0
 OwnRun setting who before own made ends last = (all : List Entry) → TasksRun (by_script setting) who all before own made ends last
 
--- All tasks have come to their ends, or an operation is due in the first one that has not, if the full journal broke it off.
-abbrev pub IsBrokenOff : Setting → Who → ℕ → Holding → List Assigned → List Entry → List End → Result (Unit {0}) Broken → Type 0
-IsBrokenOff setting who seat before own made ends (Ok done) = length ends ≡ length own
-IsBrokenOff setting who seat before own made ends (Err broken.Full) =
-    (length ends < length own)
-    × IsDueAfter (λ entries (run : List End × Holding). OwnRun setting who before own entries run.0 run.1) seat made
-IsBrokenOff setting who seat before own made ends (Err broken.NoMemory) = Unit {0}
+-- All of so many tasks have come to their ends, or an operation is due in the first one that has not, if the full journal broke it off.
+abbrev pub IsBrokenOff : (List Entry → List End → Holding → Type 0) → ℕ → ℕ → List Entry → List End → Result (Unit {0}) Broken → Type 0
+IsBrokenOff is_run count seat made ends (Ok done) = length ends ≡ count
+IsBrokenOff is_run count seat made ends (Err broken.Full) =
+    (length ends < count) × IsDueAfter (λ entries (run : List End × Holding). is_run entries run.0 run.1) seat made
+IsBrokenOff is_run count seat made ends (Err broken.NoMemory) = Unit {0}
 
 -- A worker that held this did its tasks, those at these places of the phase, one after another, with these entries of its seat.
 -- Its parts are those of the tasks that came to their ends, and if they all did, it sees by what it holds last.
@@ -71,7 +70,7 @@ pub record HasWorked (setting : Setting) (tasks : List Task) (who : Who) (places
   pub run : OwnRun setting who before own made ends last
   pub parts : AreParts own ends end.parts.items
   pub sees : WhenDone end.came (Sees last end.sight)
-  pub broken : IsBrokenOff setting who seat before own made ends end.came
+  pub broken : IsBrokenOff (OwnRun setting who before own) (length own) seat made ends end.came
 
 -- What the job of a worker may do, by the script of which it is lent. Where the full journal broke it off, it has seen that the
 -- journal is full.

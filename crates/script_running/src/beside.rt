@@ -1,17 +1,17 @@
 //! A script's phases one after another, the workers of each beside each other in threads.
 
-ghost use Rattle.std.specs.Prelude.{◌≡◌, ◌≢◌, ◌+◌, ◌++◌, ◌<◌, ◌||◌, List, [], Ok, Err, Some, IfOk, IfErr, OnErr, OnOk, false, length, slice_get, take};
+ghost use Rattle.std.specs.Prelude.{◌≡◌, ◌+◌, ◌<◌, ◌||◌, List, [], Ok, IfOk, IfErr, OnOk, false, slice_get, take};
 ghost use Rattle.bucket_core.specs.Asking.{Call};
 ghost use Rattle.world_core.specs.Asking.{IsAllAsked};
 ghost use Rattle.world_core.specs.Worlds.{failed_count};
 ghost use Rattle.script_core.specs.Lawful.{IsLawfulScript};
 ghost use Rattle.script_core.specs.Workers.{seats_before};
-ghost use Rattle.script_workers.specs.declared.task.Task.{Task};
 ghost use Rattle.moment_core.specs.Limits.{moment_limit};
 ghost use Rattle.script_running.specs.Shelves.{AreAllAtHand, setting_by};
 ghost use Rattle.script_running.specs.Beside.{HasRunBeside};
 ghost use Rattle.script_running.specs.Reporting.{HasToldFirst};
-ghost use Rattle.script_running.specs.Going.{HasCome, HasGone, IsClockSet};
+ghost use Rattle.script_running.specs.Going.{HasCome, HasReached, IsClockSet};
+ghost use Rattle.script_running.specs.Outcomes.{Outcome};
 ghost use Rattle.script_running.specs.Tasks.{is_full_came};
 ghost use Rattle.world_turn.specs.Closing.{AllJoined};
 ghost use Rattle.world_turn.specs.Passes.{table_of, view_of};
@@ -19,7 +19,7 @@ ghost use Rattle.world_turn.specs.Turns.{IsLater, IsSame};
 
 use crate::comparing::Beside;
 use crate::gathering::{Staffed, gather, jobs_of};
-use crate::{Broken, Means, OutcomeList, Report, ShelfBlock, Standing, selector_texts};
+use crate::{Broken, Means, Progress, Report, ShelfBlock, selector_texts};
 use base::NoMemory;
 use bucket_core::Bucket;
 use phase_runner::{Gate, run_phase};
@@ -30,45 +30,60 @@ use std::thread::Threads;
 use world_core::{Acted, Op, World};
 use world_turn::{Closed, Pass, Shared};
 
+/// A script, and what was read of the shelf for its blocks.
+#[derive(Clone, Copy)]
+pub struct Lent<'a> {
+    pub script: &'a Script,
+    pub shelf: &'a [ShelfBlock],
+}
+
 /// How a run came out.
 #[derive(Drop)]
-pub struct RunEnd {
-    /// How the tasks of the finished phases came out, in the order of their lines.
-    pub outcomes: OutcomeList,
+pub struct RunEnd<P> {
+    /// The report of the finished phases.
+    pub report: P,
     /// What broke the run off, if anything did.
     pub came: Result<(), Broken>,
 }
 
-/// Runs a script over a world, with what was read of the shelf for its blocks: each phase's workers beside each other, and the
-/// phases one after another. No phase is begun after one that broke off. For want of memory nothing may be begun.
+/// With what all phases of a run are done.
+#[derive(Drop)]
+struct Running<'a, B: Bucket, G, R> {
+    rt: &'a R,
+    gate: &'a G,
+    script: &'a Script,
+    means: &'a Means<'a>,
+    shared: &'a Shared<B>,
+}
+
+/// Runs a script over a world: each phase's workers beside each other, and the phases one after another. No phase is begun after one that
+/// broke off. For want of memory nothing may be begun.
 ///
 /// The tasks of a phase are added to the report when all its workers came to their ends, before the next phase is begun.
-pub fn run_beside<B: Bucket + Send, G: Gate + Sync, P: Report, R: Threads + Wait + Sync>(
+pub fn run_beside<B: Bucket + Send, G: Gate + Sync, P: Report + Drop, R: Threads + Wait + Sync>(
     rt: &R,
     alloc: Global,
-    script: &Script,
-    shelf: &[ShelfBlock],
+    lent: &Lent<'_>,
     world: World<B>,
     gate: &G,
-    report: &mut P,
-) -> Result<(RunEnd, Closed<B>), World<B>>
-    requires lawful { IsLawfulScript script.now }
-    requires at_hand { AreAllAtHand script.now shelf.now }
+    report: P,
+) -> Result<(RunEnd<P>, Closed<B>), World<B>>
+    requires lawful { IsLawfulScript lent.now.script.now }
+    requires at_hand { AreAllAtHand lent.now.script.now lent.now.shelf.now }
     requires fresh { world.journal ≡ [] }
-    requires tick { world.tick ≡ script.now.rules.tick.ms }
-    requires untold { P.tells report.old script.now [] [] }
-    ensures ran { IfOk result (λ run. HasRunBeside (setting_by script.now shelf.now)
-        run.1.world.journal
-        run.0.outcomes run.0.came) }
+    requires tick { world.tick ≡ lent.now.script.now.rules.tick.ms }
+    requires untold { P.tells report lent.now.script.now [] [] }
+
+    // The report tells of the tasks of some first phases, or for want of memory one did: just of those that came out so.
+    ensures ran { IfOk result (λ run. (outcomes : List Outcome)
+        × HasRunBeside (setting_by lent.now.script.now lent.now.shelf.now)
+        run.1.world.journal outcomes run.0.came
+        × HasToldFirst P.tells lent.now.script.now run.0.report outcomes run.0.came) }
     ensures tick { IfOk result (λ run. run.1.world.tick ≡ world.tick) }
 
     // The full journal is told just where a pass of the run met it. So want of memory is told only where none did.
     ensures refused { IfOk result
         (λ run. (view_of run.1.root.value).refused ≡ is_full_came run.0.came) }
-
-    // The report tells of the tasks of some first phases, or for want of memory it did: just of those that have these outcomes.
-    ensures reported { IfOk result (λ run. HasToldFirst P.tells script.now report.new
-        run.0.outcomes run.0.came) }
 
     // The bucket has failed no more often than before, unless the journal shows it.
     ensures unfailed { IfOk result (λ run. failed_count run.1.world.journal ≡ 0
@@ -86,32 +101,33 @@ pub fn run_beside<B: Bucket + Send, G: Gate + Sync, P: Report, R: Threads + Wait
     // Where nothing was begun, the world is as it was.
     ensures unbegun { IfErr result (λ same. same ≡ world) }
 {
-    let Ok(mut standing) = Standing::new(alloc, script) else {
+    let script = lent.script;
+    let Ok(mut progress) = Progress::new(alloc, script, report) else {
         return Err(world);
     };
     let Ok(texts) = selector_texts(alloc, &script.selectors) else {
         return Err(world);
     };
-    let means = Means::lend(alloc, script, shelf, texts.members());
+    let means = Means::lend(alloc, script, lent.shelf, texts.members());
     match Shared::open(alloc, world) {
         Ok((shared, root)) => {
             let (came, root) = run_phases(
-                rt,
-                alloc,
-                script,
-                &means,
-                &shared,
+                &Running {
+                    rt,
+                    gate,
+                    script,
+                    means: &means,
+                    shared: &shared,
+                },
                 root,
-                gate,
-                &mut standing,
-                report,
+                &mut progress,
             );
             let closed = shared.close(root);
             // what every world keeps, as this one does
             let kept = closed.world();
             let _after = kept.journal();
-            let outcomes = standing.outcomes;
-            Ok((RunEnd { outcomes, came }, closed))
+            let report = progress.report;
+            Ok((RunEnd { report, came }, closed))
         }
         Err((NoMemory, world)) => Err(world),
     }
@@ -120,42 +136,30 @@ pub fn run_beside<B: Bucket + Send, G: Gate + Sync, P: Report, R: Threads + Wait
 /// Does the phases one after another, up to one that breaks off.
 #[tactic(auto, using(crate::proofs::Refused::on_tells, crate::proofs::Refused::off_tells, crate::proofs::Refused::all_tell))]
 fn run_phases<B: Bucket + Send, G: Gate + Sync, P: Report, R: Threads + Wait + Sync>(
-    rt: &R,
-    alloc: Global,
-    script: &Script,
-    means: &Means<'_>,
-    shared: &Shared<B>,
+    run: &Running<'_, B, G, R>,
     root: Pass,
-    gate: &G,
-    standing: &mut Standing,
-    report: &mut P,
+    progress: &mut Progress<P>,
 ) -> (Result<(), Broken>, Pass)
-    requires lawful { IsLawfulScript script.now }
-    requires lent { means.now.script ≡ script.now }
-    requires own { (table_of root ≡ shared.now.table.shared.table_id) × (root.seat ≡ 0) }
-    requires seats { root.splits ≡ seats_before script.now 0 }
+    requires lawful { IsLawfulScript run.now.script.now }
+    requires lent { run.now.means.now.script ≡ run.now.script.now }
+    requires own { (table_of root ≡ run.now.shared.now.table.shared.table_id) × (root.seat ≡ 0) }
+    requires seats { root.splits ≡ seats_before run.now.script.now 0 }
     requires unwanted { (view_of root).wanted ≡ false }
     requires all { AllJoined (view_of root) }
-    requires gone { HasGone (setting_by script.now means.now.shelf)
-        (view_of root) [] standing.old.sights.items
-        standing.old.outcomes }
-    requires untold { P.tells report.old script.now [] standing.old.outcomes }
+    requires reached { HasReached P.tells (setting_by run.now.script.now run.now.means.now.shelf)
+        (view_of root) [] progress.old }
     ensures pass { (table_of result.1 ≡ table_of root) × (result.1.seat ≡ 0) }
     ensures tick { (view_of result.1).tick ≡ (view_of root).tick }
     ensures refused { (view_of result.1).refused
         ≡ ((view_of root).refused || is_full_came result.0) }
     ensures unwanted { result.0 ≡ Ok tt → (view_of result.1).wanted ≡ false }
     ensures all { AllJoined (view_of result.1) }
-    ensures came { HasCome (setting_by script.now means.now.shelf)
-        (view_of result.1) script.now.phases
-        standing.new.sights.items standing.new.outcomes result.0 }
-    ensures reported { HasToldFirst P.tells script.now report.new standing.new.outcomes result.0 }
+    ensures came { HasCome P.tells (setting_by run.now.script.now run.now.means.now.shelf)
+        (view_of result.1) run.now.script.now.phases progress.new result.0 }
 {
     let mut root = root;
-    for (place, phase) in script.phases.members().iter().enumerate() {
-        let (came, next) = phase_beside(
-            rt, alloc, script, means, shared, root, gate, place, phase, standing, report,
-        );
+    for (place, phase) in run.script.phases.members().iter().enumerate() {
+        let (came, next) = phase_beside(run, root, place, phase, progress);
         root = next;
         if let Err(broken) = came {
             return (Err(broken), root);
@@ -166,67 +170,54 @@ fn run_phases<B: Bucket + Send, G: Gate + Sync, P: Report, R: Threads + Wait + S
 
 /// Sets the clock, and has the phase's workers do their tasks.
 fn phase_beside<B: Bucket + Send, G: Gate + Sync, P: Report, R: Threads + Wait + Sync>(
-    rt: &R,
-    alloc: Global,
-    script: &Script,
-    means: &Means<'_>,
-    shared: &Shared<B>,
+    run: &Running<'_, B, G, R>,
     root: Pass,
-    gate: &G,
     place: usize,
     phase: &Phase,
-    standing: &mut Standing,
-    report: &mut P,
+    progress: &mut Progress<P>,
 ) -> (Result<(), Broken>, Pass)
-    requires lawful { IsLawfulScript script.now }
-    requires lent { means.now.script ≡ script.now }
-    requires at { slice_get script.now.phases place ≡ Some phase.now }
-    requires own { (table_of root ≡ shared.now.table.shared.table_id) × (root.seat ≡ 0) }
-    requires seats { root.splits ≡ seats_before script.now place }
+    requires lawful { IsLawfulScript run.now.script.now }
+    requires lent { run.now.means.now.script ≡ run.now.script.now }
+    requires at { slice_get run.now.script.now.phases place ≡ Some phase.now }
+    requires own { (table_of root ≡ run.now.shared.now.table.shared.table_id) × (root.seat ≡ 0) }
+    requires seats { root.splits ≡ seats_before run.now.script.now place }
     requires unwanted { (view_of root).wanted ≡ false }
     requires all { AllJoined (view_of root) }
-    requires gone { HasGone (setting_by script.now means.now.shelf) (view_of root)
-        (take place script.now.phases)
-        standing.old.sights.items standing.old.outcomes }
+    requires reached { HasReached P.tells (setting_by run.now.script.now run.now.means.now.shelf)
+        (view_of root) (take place run.now.script.now.phases) progress.old }
     ensures pass { (table_of result.1 ≡ table_of root) × (result.1.seat ≡ 0) }
     ensures tick { (view_of result.1).tick ≡ (view_of root).tick }
     ensures refused { (view_of result.1).refused
         ≡ ((view_of root).refused || is_full_came result.0) }
     ensures unwanted { result.0 ≡ Ok tt → (view_of result.1).wanted ≡ false }
-    ensures seats { OnOk result.0 (result.1.splits ≡ seats_before script.now (place + 1)) }
+    ensures seats { OnOk result.0
+        (result.1.splits ≡ seats_before run.now.script.now (place + 1)) }
     ensures all { AllJoined (view_of result.1) }
-    ensures came { HasCome (setting_by script.now means.now.shelf) (view_of result.1)
-        (take (place + 1) script.now.phases) standing.new.sights.items standing.new.outcomes
-        result.0 }
-    ensures reported { (before : List Task)
-        → P.tells report.old script.now before standing.old.outcomes
-        → OnOk result.0
-        (P.tells report.new script.now (before ++ phase.now.tasks) standing.new.outcomes) }
-    ensures unreported { result.0 ≡ Err Broken.Full → report.new ≡ report.old }
-    ensures kept { OnErr result.0 (standing.new.outcomes ≡ standing.old.outcomes) }
+    ensures came { HasCome P.tells (setting_by run.now.script.now run.now.means.now.shelf)
+        (view_of result.1) (take (place + 1) run.now.script.now.phases) progress.new result.0 }
 {
-    let Ok(staff) = script.workers_after(alloc, place, root.splits()) else {
+    let alloc = run.means.alloc();
+    let Ok(staff) = run.script.workers_after(alloc, place, root.splits()) else {
         return (Err(Broken::NoMemory), root);
     };
     let workers = staff.members();
-    let sights = &mut standing.sights;
-    let Ok(jobs) = jobs_of(means, place, phase, workers, sights) else {
+    let Ok(jobs) = jobs_of(run.means, place, phase, workers, &mut progress.sights) else {
         return (Err(Broken::NoMemory), root);
     };
-    let (begun, root) = begin_phase(rt, shared, root, phase);
+    let (begun, root) = begin_phase(run.rt, run.shared, root, phase);
     if let Err(broken) = begun {
         return (Err(broken), root);
     }
-    let end = run_phase(rt, alloc, shared, root, jobs, gate);
+    let end = run_phase(run.rt, alloc, run.shared, root, jobs, run.gate);
     if end.memory {
         return (Err(Broken::NoMemory), end.root);
     }
     let staffed = Staffed {
-        script,
+        script: run.script,
         tasks: phase.tasks.members(),
         workers,
     };
-    let came = gather(alloc, &staffed, end.ends, standing, report, &Beside { rt });
+    let came = gather(alloc, &staffed, end.ends, progress, &Beside { rt: run.rt });
     (came, end.root)
 }
 

@@ -1,29 +1,22 @@
 //! The workers of a phase, sent with what their gateways see, and their ends, laid together in the order of the lines.
 
-ghost use Rattle.std.specs.Prelude.{◌≡◌, ◌≢◌, ◌<◌, ◌≤◌, [], ◌∷◌, ◌++◌, ℕ, List, Ok, Err, None, Some, IfOk, IfSome, MatchBool, OnErr, OnOk, length, slice_get, take};
-ghost use Rattle.std.specs.List.{All, AllZip};
-ghost use Rattle.world_core.specs.declared.entry.Entry.{Entry};
-ghost use Rattle.script_core.specs.Lawful.{IsLawfulScript};
-ghost use Rattle.script_core.specs.Workers.{workers_of};
-ghost use Rattle.script_workers.specs.Hands.{gateway_count};
-ghost use Rattle.script_workers.specs.declared.phase.Phase.{Phase};
-ghost use Rattle.script_workers.specs.declared.task.Task.{Task};
-ghost use Rattle.lifecycle_core.specs.Holdings.{Holding, Holdings};
+ghost use Rattle.std.specs.Prelude.{◌≡◌, ◌≢◌, ◌<◌, ◌≤◌, ◌++◌, ℕ, List, Ok, Err, None, Some, IfOk, IfSome, MatchBool, OnOk, length, slice_get};
+ghost use Rattle.std.specs.List.{All, AllZip, flat_map, range_with_len};
+ghost use Rattle.script_workers.specs.Hands.{gateway_of, own_hand};
+ghost use Rattle.lifecycle_core.specs.Holdings.{Holdings};
 ghost use Rattle.lifecycle_core.specs.Setting.{Setting};
-ghost use Rattle.lifecycle_core.specs.Tasks.{End};
 ghost use Rattle.script_fields.specs.Limits.{most_gateways};
-ghost use Rattle.script_running.specs.Begun.{AreLeft};
 ghost use Rattle.script_running.specs.Beside.{AreSeen};
-ghost use Rattle.script_running.specs.Ended.{HaveEnded, IsPostOf};
-ghost use Rattle.script_running.specs.Gathering.{HaveOwnGateways, AreAllEmpty, AreEmpty, AreLaid, AreMore, AreSeenBeside, AreTakenIn, AreTold, Gathers, HasSlot, HaveCome, IsLaid, IsPhaseOf, IsSeen, IsTaken, IsTakenAt, IsToldBy, IsWorse, laid_in, parts_at, slot_at};
+ghost use Rattle.script_running.specs.Ended.{IsPostOf};
+ghost use Rattle.script_running.specs.Gathering.{HaveOwnGateways, AreAllEmpty, AreEmpty, AreJoined, AreLaid, AreSeenBeside, AreTakenIn, AreTold, HasGathered, HasSlot, HaveCome, IsLaid, IsSeen, IsTaken, IsTakenAt, IsToldBy, IsWorse, Joined, laid_in, parts_at, slot_at};
 ghost use Rattle.script_running.specs.Going.{Met};
+ghost use Rattle.script_running.specs.Reporting.{AddsTo};
 ghost use Rattle.script_running.specs.Workers.{IsAtWork};
 ghost use Rattle.script_running.specs.Tasks.{is_full_came};
 ghost use Rattle.script_running.specs.Outcomes.{Outcome};
 
 use crate::{
-    Broken, Means, Outcome, OutcomeList, Part, Report, Sight, Standing, WorkerEnd, WorkerJob,
-    outcome_of,
+    Broken, Means, Outcome, Part, Progress, Report, Sight, WorkerEnd, WorkerJob, outcome_of,
 };
 use base::{NoMemory, TryCopy};
 use querier::CompareWay;
@@ -79,51 +72,40 @@ fn take_sight(gateway: Option<u32>, sights: &mut Vec<Sight>) -> Sight
     }
 }
 
-/// Takes what each worker's gateway sees from now on, and where none was broken off, adds the outcomes of the phase's tasks, also to
-/// the report.
+/// Takes what each worker's gateway sees from now on, and where none was broken off, adds to the report what the phase's tasks came to.
 ///
 /// It takes memory only where no worker met the full journal, so that this is what is told of such a phase.
 pub fn gather<P: Report, W: CompareWay>(
     alloc: Global,
     phase: &Staffed<'_>,
     ends: Vec<WorkerEnd>,
-    standing: &mut Standing,
-    report: &mut P,
+    progress: &mut Progress<P>,
     way: &W,
 ) -> Result<(), Broken>
     requires way { W.can_compare way.now }
     requires many { length phase.now.workers.now ≡ length ends.items }
     requires gateways { All (λ worker. IfSome worker.gateway
-        (λ gateway. gateway < length standing.old.sights.items)) phase.now.workers.now }
-    requires few { length standing.old.sights.items ≤ most_gateways }
+        (λ gateway. gateway < length progress.old.sights.items)) phase.now.workers.now }
+    requires few { length progress.old.sights.items ≤ most_gateways }
     requires places { All (λ worker. All (λ place. place < length phase.now.tasks.now) worker.tasks)
         phase.now.workers.now }
-    ensures each { length standing.new.sights.items ≡ length standing.old.sights.items }
+    ensures each { length progress.new.sights.items ≡ length progress.old.sights.items }
     ensures came { HaveCome ends.items result }
-    ensures gathers { (setting : Setting) (number : ℕ) (own : Phase) (before after : Holdings)
-        (front : List Entry) (kept : List (ℕ × List Entry)) (told : List (List End))
-        (lasts : List Holding) → IsPhaseOf setting number own phase.now
-        → length standing.old.sights.items ≡ gateway_count setting.script.gateways
-        → HaveEnded setting own.tasks before front phase.now.workers.now kept ends.items told lasts
-        → AreLeft before phase.now.workers.now lasts after
-        → AreSeenBeside before phase.now.workers.now standing.old.sights.items
-        → Gathers setting own phase.now.workers.now told ends.items after standing.new.sights.items
-        standing.old.outcomes standing.new.outcomes result }
-    ensures reported { (before : List Task)
-        → P.tells report.old phase.now.script.now before standing.old.outcomes
-        → OnOk result (P.tells report.new phase.now.script.now
-        (before ++ phase.now.tasks.now) standing.new.outcomes) }
-    ensures unreported { result ≡ Err Broken.Full → report.new ≡ report.old }
-    ensures kept { OnErr result (standing.new.outcomes ≡ standing.old.outcomes) }
+    ensures gathers { (setting : Setting) (one : Joined)
+        → AreJoined setting phase.now ends.items progress.old.sights.items one
+        → OnOk result (HasGathered P.tells setting one progress.old progress.new) }
+
+    // The full journal leaves the report as it was.
+    ensures unreported { result ≡ Err Broken.Full → progress.new.report ≡ progress.old.report }
 {
     if any_full(&ends) {
         return Err(Broken::Full);
     }
-    let Ok(mut slots) = slots_for(alloc, phase.tasks.len(), standing.sights.len()) else {
+    let Ok(mut slots) = slots_for(alloc, phase.tasks.len(), progress.sights.len()) else {
         return Err(Broken::NoMemory);
     };
-    match take_in(phase.workers, ends, &mut standing.sights, &mut slots) {
-        Ok(()) => tell_all(alloc, phase, slots, &mut standing.outcomes, report, way),
+    match take_in(phase.workers, ends, &mut progress.sights, &mut slots) {
+        Ok(()) => tell(alloc, phase, slots, &mut progress.report, way),
         Err(broken) => Err(broken),
     }
 }
@@ -285,65 +267,20 @@ fn empty_slots(alloc: Global, count: usize) -> Result<Column, NoMemory>
     Ok(Column { slots })
 }
 
-/// Adds the outcomes of the tasks, in their order, by the parts of those who did them, also to the report. For want of memory no outcome
-/// is added.
-fn tell_all<P: Report, W: CompareWay>(
+/// Adds to the report how the tasks came out, in their order, by the parts of those who did them. For want of memory a part of them may
+/// have been added.
+fn tell<P: Report, W: CompareWay>(
     alloc: Global,
     phase: &Staffed<'_>,
     slots: Slots,
-    outcomes: &mut OutcomeList,
     report: &mut P,
     way: &W,
 ) -> Result<(), Broken>
     requires way { W.can_compare way.now }
     requires few { length slots.gateways.items ≤ most_gateways }
-    ensures told { OnOk result ((own : List Outcome) × (outcomes.new ≡ outcomes.old ++ own)
-        × AreTold slots 0 phase.now.tasks.now own) }
-    ensures untold { OnErr result (outcomes.new ≡ outcomes.old) }
+    ensures told { OnOk result ((own : List Outcome) × AreTold slots 0 phase.now.tasks.now own
+        × AddsTo P.tells phase.now.script.now phase.now.tasks.now own report.old report.new) }
     ensures why { result ≢ Err Broken.Full }
-    ensures reported { (before : List Task)
-        → P.tells report.old phase.now.script.now before outcomes.old
-        → OnOk result (P.tells report.new phase.now.script.now
-        (before ++ phase.now.tasks.now) outcomes.new) }
-{
-    let before = outcomes.len();
-    match tell(alloc, phase, slots, outcomes, report, way) {
-        Ok(()) => Ok(()),
-        Err(NoMemory) => {
-            cut_back(alloc, outcomes, before);
-            Err(Broken::NoMemory)
-        }
-    }
-}
-
-/// Leaves the first so many outcomes. It takes no memory.
-fn cut_back(alloc: Global, outcomes: &mut OutcomeList, count: usize)
-    ensures { outcomes.new ≡ take count outcomes.old }
-{
-    let mut kept = mem::replace(outcomes, OutcomeList::new(alloc)).into_vec();
-    kept.truncate(count);
-    *outcomes = OutcomeList::from_vec(kept);
-}
-
-/// Adds the outcomes of a phase's tasks to the others, and their lines to the report. For want of memory some outcomes may have
-/// been added, which the caller takes back.
-fn tell<P: Report, W: CompareWay>(
-    alloc: Global,
-    phase: &Staffed<'_>,
-    slots: Slots,
-    outcomes: &mut OutcomeList,
-    report: &mut P,
-    way: &W,
-) -> Result<(), NoMemory>
-    requires way { W.can_compare way.now }
-    requires few { length slots.gateways.items ≤ most_gateways }
-    ensures told { OnOk result ((own : List Outcome) × (outcomes.new ≡ outcomes.old ++ own)
-        × AreTold slots 0 phase.now.tasks.now own) }
-    ensures more { AreMore outcomes.old outcomes.new }
-    ensures reported { (before : List Task)
-        → P.tells report.old phase.now.script.now before outcomes.old
-        → OnOk result (P.tells report.new phase.now.script.now
-        (before ++ phase.now.tasks.now) outcomes.new) }
 {
     let mut slots = slots;
     let script = phase.script;
@@ -351,10 +288,12 @@ fn tell<P: Report, W: CompareWay>(
     for place in 0..tasks.len() {
         let task = &tasks[place];
         let Ok(outcome) = outcome_at(alloc, &task.work, place, &mut slots, way) else {
-            return Err(NoMemory);
+            return Err(Broken::NoMemory);
         };
-        let Ok(()) = tell_one(script, task, outcome, outcomes, report) else {
-            return Err(NoMemory);
+        let told = report.add(script, task, &outcome);
+        drop(outcome);
+        let Ok(()) = told else {
+            return Err(Broken::NoMemory);
         };
     }
     Ok(())
@@ -377,24 +316,6 @@ fn outcome_at<W: CompareWay>(
     outcome_of(alloc, parts, way)
 }
 
-/// Adds the outcome of a task, also to the report.
-#[tactic(auto, using(crate::proofs::Gathers::all_first, crate::proofs::Gathers::pushed_first))]
-fn tell_one<P: Report>(
-    script: &Script,
-    task: &Task,
-    outcome: Outcome,
-    outcomes: &mut OutcomeList,
-    report: &mut P,
-) -> Result<(), NoMemory>
-    ensures told { OnOk result (outcomes.new ≡ outcomes.old ++ outcome ∷ []) }
-    ensures more { AreMore outcomes.old outcomes.new }
-    ensures reported { (before : List Task) → P.tells report.old script.now before outcomes.old
-        → OnOk result (P.tells report.new script.now (before ++ task.now ∷ []) outcomes.new) }
-{
-    report.add(script, task, &outcome)?;
-    outcomes.push(outcome)
-}
-
 /// Takes the parts of those who did the task at a place, in their order.
 fn take_parts(
     alloc: Global,
@@ -405,19 +326,51 @@ fn take_parts(
     ensures parts { IfOk result (λ parts. parts.items ≡ parts_at slots.old place work.now) }
     ensures taken { IsTakenAt place slots.old slots.new }
 {
-    let mut parts = Vec::new(alloc);
+    match work.asking() {
+        Some(_) => take_all(alloc, place, slots),
+        None => take_own(alloc, own_gateway(work), place, slots),
+    }
+}
+
+/// The gateway whose worker does a task that asks not all of them, if it is one's.
+fn own_gateway(work: &Work) -> Option<u32>
+    ensures { (place : ℕ) → result ≡ gateway_of (own_hand place work.now) }
+{
     match work {
-        Work::Upload(..) | Work::Compact(_) | Work::Clean(_) => take_part(
-            &mut slots.alone,
-            place,
-            &mut parts,
-        )?,
-        Work::Sync(gateway) => take_of(slots, *gateway as usize, place, &mut parts)?,
-        Work::Query { .. } => {
-            for gateway in 0..slots.gateways.len() {
-                take_of(slots, gateway, place, &mut parts)?;
-            }
-        }
+        Work::Sync(gateway) => Some(*gateway),
+        _ => None,
+    }
+}
+
+/// Takes what the workers of all gateways came to in the task at a place.
+fn take_all(alloc: Global, place: usize, slots: &mut Slots) -> Result<Vec<Part>, NoMemory>
+    ensures parts { IfOk result (λ parts. parts.items
+        ≡ flat_map (λ gateway. laid_in (slot_at slots.old (Some gateway) place))
+        (range_with_len 0 (length slots.old.gateways.items))) }
+    ensures taken { IsTakenAt place slots.old slots.new }
+{
+    let mut parts = Vec::new(alloc);
+    for gateway in 0..slots.gateways.len() {
+        take_of(slots, gateway, place, &mut parts)?;
+    }
+    Ok(parts)
+}
+
+/// Takes what one worker came to in the task at a place, by its gateway, if it is one's.
+fn take_own(
+    alloc: Global,
+    gateway: Option<u32>,
+    place: usize,
+    slots: &mut Slots,
+) -> Result<Vec<Part>, NoMemory>
+    ensures parts { IfOk result
+        (λ parts. parts.items ≡ laid_in (slot_at slots.old gateway place)) }
+    ensures taken { IsTakenAt place slots.old slots.new }
+{
+    let mut parts = Vec::new(alloc);
+    match gateway {
+        Some(gateway) => take_of(slots, gateway as usize, place, &mut parts)?,
+        None => take_part(&mut slots.alone, place, &mut parts)?,
     }
     Ok(parts)
 }

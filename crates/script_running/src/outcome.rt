@@ -1,12 +1,7 @@
 //! How activities ended, as a report tells it. A number in it is mostly that of an entry, by which a reader finds in
 //! the journal what the activity met.
 
-use crate::Outcome;
-use base::List;
 use querier::{Answer, NamesList};
-
-/// Outcomes in the order in which the report tells them.
-pub type OutcomeList = List<Outcome>;
 
 /// How a gateway's sync ended.
 #[derive(Clone, Copy, Debug, PartialEq, Eq)]
@@ -35,8 +30,12 @@ pub enum QueryOutcome {
 pub enum QueryPart {
     /// None of the query's times lie in its partition.
     NotAsked,
-    Answer(Answer),
-    NoAnswer(NoAnswer),
+    /// It has not synced yet.
+    NoView,
+    /// What it answered over a view, and the number of the first entry of the sync that gave the view.
+    Answer(Answer, u64),
+    /// Why it gave no answer over such a view.
+    NoAnswer(NoAnswer, u64),
 }
 
 /// Why a gateway gave no answer.

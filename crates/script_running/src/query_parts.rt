@@ -1,12 +1,11 @@
 //! A task's outcome, from the parts of those who did it.
 
-ghost use Rattle.std.specs.Prelude.{◌≡◌, ◌<◌, ◌^◌, [], ◌∷◌, ◌++◌, List, IfOk, MatchResult, OnOk, length};
+ghost use Rattle.std.specs.Prelude.{◌≡◌, ◌<◌, ◌^◌, [], ◌∷◌, ◌++◌, List, Some, IfOk, MatchResult, OnOk, length};
 ghost use Rattle.script_workers.specs.declared.work.Work.{Work};
 ghost use Rattle.script_running.specs.Given.{HasGiven};
-ghost use Rattle.script_running.specs.Outcomes.{AreAllParts, IsOutcomeOf, IsQueryOutcome, IsWhole};
+ghost use Rattle.script_running.specs.Outcomes.{AreAllParts, IsOutcomeOf, IsQueryOutcome, IsWhole, why_none};
 ghost use Rattle.script_running.specs.declared.came.Came.TheVariants as parts;
 ghost use Rattle.script_running.specs.declared.outcome.QueryPart.{QueryPart};
-ghost use Rattle.script_running.specs.declared.outcome.QueryPart.TheVariants as gives;
 
 use crate::{Came, NoAnswer, Outcome, Part, QueryOutcome, QueryPart};
 use base::{NoMemory, TryCopy};
@@ -73,19 +72,23 @@ impl Given {
     }
 
     /// Adds what the next gateway gave.
-    #[tactic(auto, using(crate::proofs::GivenParts::unasked_more, crate::proofs::GivenParts::answer_more))]
+    #[tactic(auto, using(crate::proofs::GivenParts::unasked_more))]
     fn add(&mut self, gateway: u32, part: QueryPart) -> Result<(), NoMemory>
         ensures { (parts : List QueryPart) → length parts ≡ gateway → HasGiven parts self.old
             → OnOk result (HasGiven (parts ++ part ∷ []) self.new) }
     {
         match part {
             QueryPart::NotAsked => Ok(()),
-            QueryPart::Answer(answer) => {
+            QueryPart::NoView => {
+                self.note_none(gateway, NoAnswer::NoView);
+                Ok(())
+            }
+            QueryPart::Answer(answer, _) => {
                 let sources = answer.sources.copy()?;
                 self.names.push(Names { gateway, sources })?;
                 self.answers.take(answer)
             }
-            QueryPart::NoAnswer(why) => {
+            QueryPart::NoAnswer(why, _) => {
                 self.note_none(gateway, why);
                 Ok(())
             }
@@ -93,10 +96,10 @@ impl Given {
     }
 
     /// A gateway gave no answer: it is noted, if it is the first.
-    #[tactic(auto, using(crate::proofs::GivenParts::none_noted))]
     fn note_none(&mut self, gateway: u32, why: NoAnswer)
-        ensures { (parts : List QueryPart) → length parts ≡ gateway → HasGiven parts self.old
-            → HasGiven (parts ++ gives.NoAnswer why ∷ []) self.new }
+        ensures { (parts : List QueryPart) (part : QueryPart) → why_none part ≡ Some why
+            → length parts ≡ gateway → HasGiven parts self.old
+            → HasGiven (parts ++ part ∷ []) self.new }
     {
         if self.none.is_none() {
             self.none = Some((gateway, why));

@@ -117,7 +117,7 @@ fn ask_view<H: Hand>(
         (is_short_came result) }
 {
     let Some(view) = &sight.view else {
-        return Ok(Came::Query(QueryPart::NoAnswer(NoAnswer::NoView)));
+        return Ok(Came::Query(QueryPart::NoView));
     };
     let Ok(selector) = means.selector(number) else {
         return Err(Broken::NoMemory);
@@ -135,32 +135,38 @@ fn ask_view<H: Hand>(
         own,
         hand,
     );
-    take_cache(driven, &mut sight.cache)
+    take_cache(driven, view.first, &mut sight.cache)
 }
 
-/// What a drive of a call came to. The ranges that it left are the gateway's from now on.
-fn take_cache(driven: Driven<CallLeft>, cache: &mut Option<IndexCache>) -> Result<Part, Broken>
-    ensures came { result ≡ call_came driven }
+/// What a drive of a call came to, over the view with this first entry. The ranges that it left are the gateway's from now on.
+fn take_cache(
+    driven: Driven<CallLeft>,
+    first: u64,
+    cache: &mut Option<IndexCache>,
+) -> Result<Part, Broken>
+    ensures came { result ≡ call_came first driven }
     ensures cache { cache.new ≡ cache_by cache.old driven }
 {
     match driven {
         Driven::Ended(left) => {
             let CallLeft { end, cache: own } = left;
             *cache = Some(own);
-            Ok(Came::Query(call_part(end)))
+            Ok(Came::Query(call_part(first, end)))
         }
         Driven::Full => Err(Broken::Full),
         Driven::Stopped(_) | Driven::NoMemory => Err(Broken::NoMemory),
     }
 }
 
-fn call_part(end: SeriesEnd) -> QueryPart
-    ensures { result ≡ call_part end }
+fn call_part(first: u64, end: SeriesEnd) -> QueryPart
+    ensures { result ≡ call_part first end }
 {
     match end {
-        SeriesEnd::Answer { series, sources } => QueryPart::Answer(Answer { series, sources }),
-        SeriesEnd::Missing(entry) => QueryPart::NoAnswer(NoAnswer::Missing(entry)),
-        SeriesEnd::Damaged(entry) => QueryPart::NoAnswer(NoAnswer::Damaged(entry)),
-        SeriesEnd::Fault(entry) => QueryPart::NoAnswer(NoAnswer::Fault(entry)),
+        SeriesEnd::Answer { series, sources } => {
+            QueryPart::Answer(Answer { series, sources }, first)
+        }
+        SeriesEnd::Missing(entry) => QueryPart::NoAnswer(NoAnswer::Missing(entry), first),
+        SeriesEnd::Damaged(entry) => QueryPart::NoAnswer(NoAnswer::Damaged(entry), first),
+        SeriesEnd::Fault(entry) => QueryPart::NoAnswer(NoAnswer::Fault(entry), first),
     }
 }

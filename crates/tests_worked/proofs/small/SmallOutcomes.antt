@@ -40,15 +40,15 @@ sync_out gateway view count is = (came_to.Sync (syncs.Blocks count) ∷ [], (ap 
 
 pub small_out : (low high : ℤ) (selector : ℕ) (used : Use) → IsOutcome (works.Query low high selector) (answered used (called.Answer (small.up ∷ []) (small.a ∷ [])) ∷ []) small_outcome
 small_out low high selector used = (
-  came_to.Query (given.Answer small_answer) ∷ [],
+  came_to.Query (given.Answer small_answer used.view.first) ∷ [],
   (refl, tt),
-  (given.Answer small_answer ∷ [], queries.Answer small_answer (record { gateway = 0; sources = small.a ∷ [] } ∷ []), refl, (refl, record { merged = merge_given; sources = refl }, refl), refl),
+  (given.Answer small_answer used.view.first ∷ [], queries.Answer small_answer (record { gateway = 0; sources = small.a ∷ [] } ∷ []), refl, (refl, record { merged = merge_given; sources = refl }, refl), refl),
 )
 
 pub no_out : (low high : ℤ) (selector : ℕ) (used : Use) → IsOutcome (works.Query low high selector) (answered used (called.Answer [] []) ∷ []) no_outcome
 unfolding triples_of
 no_out low high selector used = (
-  came_to.Query (given.Answer no_answer) ∷ [],
+  came_to.Query (given.Answer no_answer used.view.first) ∷ [],
   (refl, tt),
-  (given.Answer no_answer ∷ [], queries.Answer no_answer (record { gateway = 0; sources = [] } ∷ []), refl, (refl, record { merged = none_merged; sources = refl }, refl), refl),
+  (given.Answer no_answer used.view.first ∷ [], queries.Answer no_answer (record { gateway = 0; sources = [] } ∷ []), refl, (refl, record { merged = none_merged; sources = refl }, refl), refl),
 )

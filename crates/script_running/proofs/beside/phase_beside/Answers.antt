@@ -1,6 +1,5 @@
-use Rattle.std.proofs.Common.{◌≡◌, ◌∙◌, ◌+◌, ◌++◌, ℕ, List, length, [], refl, ap, sym, subst, vec_len, arith}
-use Rattle.std.specs.Prelude.{Err, OnOk}
-use Rattle.script_workers.specs.declared.task.Task.{Task}
+use Rattle.std.proofs.Common.{◌≡◌, ◌∙◌, ◌+◌, ℕ, List, length, [], refl, ap, sym, subst, vec_len, arith}
+use Rattle.std.specs.Prelude.{Err}
 use Rattle.world_core.specs.declared.entry.Entry.{Entry}
 use Rattle.world_turn.specs.Passes.{view_of}
 use Rattle.world_turn.specs.declared.pass.Pass.{Pass}
@@ -16,50 +15,59 @@ use denote.Param.Send.{sendable}
 use Rattle.script_running.proofs.Crossing.{job_send}
 use Rattle.script_running.proofs.Gathers.{gateways_counted}
 use Rattle.script_running.proofs.Phasing.{always, at_work, clock_refused, ends_long, few_seats, idled, if_false, if_true, joined_on, moment_lawful, next_seats, no_room, phase_apart, phase_comes, within_gateways, within_tasks, workers_here}
+use Rattle.script_running.proofs.Reporting.{broke_so}
 use Rattle.script_running.proofs.Refused.{clock_done, clock_tells, clock_unwanted, come_tells, come_unwanted, phase_tells, phase_unwanted}
 use Rattle.script_running.proofs.beside.phase_beside.Goals as goal
 use Rattle.base.proofs.Bools.{or_false}
 use Rattle.base.proofs.Pairs.{AllZip-as_long}
 
 pub returns-in_default-clause-came : goal.returns-in_default-clause-came
-returns-in_default-clause-came g c = no_room c.args.script.now c.args.means.now.shelf c.args.place c.args.phase.now c.requires.at (view_of c.args.root) c.args.standing.now.sights.items c.args.standing.now.outcomes c.requires.gone
+returns-in_default-clause-came g c =
+    let r = c.requires.reached in
+    broke_so g.P.Report.tells (setting_by c.args.run.now.script.now c.args.run.now.means.now.shelf) c.args.place (view_of c.args.root) (view_of c.args.root) c.args.progress.now c.args.progress.now.report broken.NoMemory r
+    (no_room c.args.run.now.script.now c.args.run.now.means.now.shelf c.args.place c.args.phase.now c.requires.at (view_of c.args.root) c.args.progress.now.sights.items r.outcomes r.gone) (λ never. refl)
 
 pub jobs_of-requires-clause-work : goal.jobs_of-requires-clause-work
 jobs_of-requires-clause-work g c =
-    let are = workers_here c.args.script.now c.args.place c.splits.result c.in-Ok.staff c.members-workers.result.now c.members-workers.ensures c.in-Ok.ensures (c.splits.ensures ∙ c.requires.seats) in
-    at_work c.args.script.now c.requires.lawful c.args.place c.args.phase.now c.requires.at c.members-workers.result.now c.args.means.now c.requires.lent are
+    let are = workers_here c.args.run.now.script.now c.args.place c.splits.result c.in-Ok.staff c.members-workers.result.now c.members-workers.ensures c.in-Ok.ensures (c.splits.ensures ∙ c.requires.seats) in
+    at_work c.args.run.now.script.now c.requires.lawful c.args.place c.args.phase.now c.requires.at c.members-workers.result.now c.args.run.now.means.now c.requires.lent are
 
 pub jobs_of-requires-clause-gateways : goal.jobs_of-requires-clause-gateways
 jobs_of-requires-clause-gateways g c =
-    let are = workers_here c.args.script.now c.args.place c.splits.result c.in-Ok.staff c.members-workers.result.now c.members-workers.ensures c.in-Ok.ensures (c.splits.ensures ∙ c.requires.seats) in
-    within_gateways c.args.script.now c.requires.lawful c.args.place c.args.phase.now c.requires.at c.members-workers.result.now (length c.args.standing.now.sights.items) are c.requires.gone.each
+    let are = workers_here c.args.run.now.script.now c.args.place c.splits.result c.in-Ok.staff c.members-workers.result.now c.members-workers.ensures c.in-Ok.ensures (c.splits.ensures ∙ c.requires.seats) in
+    within_gateways c.args.run.now.script.now c.requires.lawful c.args.place c.args.phase.now c.requires.at c.members-workers.result.now (length c.args.progress.now.sights.items) are c.requires.reached.gone.each
 
 pub jobs_of-requires-clause-apart : goal.jobs_of-requires-clause-apart
 jobs_of-requires-clause-apart g c =
-    let are = workers_here c.args.script.now c.args.place c.splits.result c.in-Ok.staff c.members-workers.result.now c.members-workers.ensures c.in-Ok.ensures (c.splits.ensures ∙ c.requires.seats) in
-    subst HaveOwnGateways (sym are) (phase_apart (setting_by c.args.script.now c.args.means.now.shelf) c.args.place)
+    let are = workers_here c.args.run.now.script.now c.args.place c.splits.result c.in-Ok.staff c.members-workers.result.now c.members-workers.ensures c.in-Ok.ensures (c.splits.ensures ∙ c.requires.seats) in
+    subst HaveOwnGateways (sym are) (phase_apart (setting_by c.args.run.now.script.now c.args.run.now.means.now.shelf) c.args.place)
 
 pub returns-in_default-jobs_of-clause-came : goal.returns-in_default-jobs_of-clause-came
-returns-in_default-jobs_of-clause-came g c = no_room c.args.script.now c.args.means.now.shelf c.args.place c.args.phase.now c.requires.at (view_of c.args.root) c.args.standing.now.sights.items c.args.standing.now.outcomes c.requires.gone
+returns-in_default-jobs_of-clause-came g c =
+    let r = c.requires.reached in
+    broke_so g.P.Report.tells (setting_by c.args.run.now.script.now c.args.run.now.means.now.shelf) c.args.place (view_of c.args.root) (view_of c.args.root) c.args.progress.now c.args.progress.now.report broken.NoMemory r
+    (no_room c.args.run.now.script.now c.args.run.now.means.now.shelf c.args.place c.args.phase.now c.requires.at (view_of c.args.root) c.args.progress.now.sights.items r.outcomes r.gone) (λ never. refl)
 
 pub begin_phase-begun-requires-clause-moment : goal.begin_phase-begun-requires-clause-moment
-begin_phase-begun-requires-clause-moment g c = moment_lawful c.args.script.now c.requires.lawful c.args.place c.args.phase.now c.requires.at
+begin_phase-begun-requires-clause-moment g c = moment_lawful c.args.run.now.script.now c.requires.lawful c.args.place c.args.phase.now c.requires.at
 
 pub returns-in-Err-clause-came : goal.returns-in-Err-clause-came
 returns-in-Err-clause-came g c =
-    clock_refused c.args.script.now c.args.means.now.shelf c.args.place c.args.phase.now c.requires.at (view_of c.args.root) c.args.standing.now.sights.items c.args.standing.now.outcomes c.requires.gone (view_of c.begin_phase-begun.result.1) c.in-Err.broken
-    (subst (IsClockSet c.args.phase.now (view_of c.args.root) (view_of c.begin_phase-begun.result.1)) c.in-Err.is c.begin_phase-begun.ensures.clock) c.begin_phase-begun.ensures.later
+    let r = c.requires.reached in
+    broke_so g.P.Report.tells (setting_by c.args.run.now.script.now c.args.run.now.means.now.shelf) c.args.place (view_of c.args.root) (view_of c.begin_phase-begun.result.1) c.args.progress.now c.args.progress.now.report c.in-Err.broken r
+    (clock_refused c.args.run.now.script.now c.args.run.now.means.now.shelf c.args.place c.args.phase.now c.requires.at (view_of c.args.root) c.args.progress.now.sights.items r.outcomes r.gone (view_of c.begin_phase-begun.result.1) c.in-Err.broken
+    (subst (IsClockSet c.args.phase.now (view_of c.args.root) (view_of c.begin_phase-begun.result.1)) c.in-Err.is c.begin_phase-begun.ensures.clock) c.begin_phase-begun.ensures.later) (λ never. refl)
 
 pub returns-in-Err-clause-all : goal.returns-in-Err-clause-all
 returns-in-Err-clause-all g c = joined_on (view_of c.args.root) (view_of c.begin_phase-begun.result.1) c.begin_phase-begun.ensures.same c.requires.all
 
 pub run_phase-end-requires-clause-few : goal.run_phase-end-requires-clause-few
 run_phase-end-requires-clause-few g c = λ κs lives.
-    let are = workers_here c.args.script.now c.args.place c.splits.result c.in-Ok.staff c.members-workers.result.now c.members-workers.ensures c.in-Ok.ensures (c.splits.ensures ∙ c.requires.seats) in
-    let sent = c.in-Ok-jobs_of.ensures.sent c.requires.gone.held c.requires.gone.seen in
-    let zipped = AllZip-as_long (IsPostOf c.args.means.now c.args.place c.requires.gone.held) c.members-workers.result.now c.in-Ok-jobs_of.jobs.items sent in
+    let are = workers_here c.args.run.now.script.now c.args.place c.splits.result c.in-Ok.staff c.members-workers.result.now c.members-workers.ensures c.in-Ok.ensures (c.splits.ensures ∙ c.requires.seats) in
+    let sent = c.in-Ok-jobs_of.ensures.sent c.requires.reached.gone.held c.requires.reached.gone.seen in
+    let zipped = AllZip-as_long (IsPostOf c.args.run.now.means.now c.args.place c.requires.reached.gone.held) c.members-workers.result.now c.in-Ok-jobs_of.jobs.items sent in
     let counted : vec_len c.in-Ok-jobs_of.jobs ≡ length c.members-workers.result.now = (let ok = c.in-Ok-jobs_of.jobs.ok in omega (arith, zipped)) in
-    few_seats c.args.script.now c.requires.lawful c.args.place c.args.phase.now c.requires.at c.begin_phase-begun.result.1.splits (vec_len c.in-Ok-jobs_of.jobs) (c.begin_phase-begun.ensures.pass.2 ∙ c.requires.seats) (counted ∙ ap length are)
+    few_seats c.args.run.now.script.now c.requires.lawful c.args.place c.args.phase.now c.requires.at c.begin_phase-begun.result.1.splits (vec_len c.in-Ok-jobs_of.jobs) (c.begin_phase-begun.ensures.pass.2 ∙ c.requires.seats) (counted ∙ ap length are)
 
 pub returns-then-end-clause-all : goal.returns-then-end-clause-all
 returns-then-end-clause-all g c = c.run_phase-end.ensures.all (joined_on (view_of c.args.root) (view_of c.begin_phase-begun.result.1) c.begin_phase-begun.ensures.same c.requires.all)
@@ -69,55 +77,72 @@ returns-then-end-clause-came g c =
     let clock = subst (IsClockSet c.args.phase.now (view_of c.args.root) (view_of c.begin_phase-begun.result.1)) c.in_default-begun.is c.begin_phase-begun.ensures.clock in
     let same = if_true {P = ((c.run_phase-end.result.root ≡ c.begin_phase-begun.result.1) × (c.run_phase-end.result.ends.items ≡ []))}
     ((kept : List (ℕ × List Entry)) × HasRun c.begin_phase-begun.result.1 c.run_phase-end.result.root (vec_len c.in-Ok-jobs_of.jobs) kept × Runs {J = Post} {E = WorkerEnd} MayWork (view_of c.begin_phase-begun.result.1).known (view_of c.run_phase-end.result.root).front (c.begin_phase-begun.result.1.splits + 1) c.in-Ok-jobs_of.jobs.items c.run_phase-end.result.ends.items kept) c.run_phase-end.result.memory c.if-end.true c.run_phase-end.ensures.run in
-    subst (λ (p : Pass). HasStopped (setting_by c.args.script.now c.args.means.now.shelf) (view_of p) c.args.standing.now.outcomes broken.NoMemory) (sym same.0)
-    (idled c.args.script.now c.args.means.now.shelf c.args.place c.args.phase.now c.requires.at c.args.root c.args.standing.now.sights.items c.args.standing.now.outcomes c.requires.gone c.requires.own.1 c.begin_phase-begun.result.1 clock.0 clock.1 (c.begin_phase-begun.ensures.pass.1 ∙ c.requires.own.1))
+    let r = c.requires.reached in
+    broke_so g.P.Report.tells (setting_by c.args.run.now.script.now c.args.run.now.means.now.shelf) c.args.place (view_of c.args.root) (view_of c.run_phase-end.result.root) c.args.progress.now c.args.progress.now.report broken.NoMemory r
+    (subst (λ (p : Pass). HasStopped (setting_by c.args.run.now.script.now c.args.run.now.means.now.shelf) (view_of p) r.outcomes broken.NoMemory) (sym same.0)
+    (idled c.args.run.now.script.now c.args.run.now.means.now.shelf c.args.place c.args.phase.now c.requires.at c.args.root c.args.progress.now.sights.items r.outcomes r.gone c.requires.own.1 c.begin_phase-begun.result.1 clock.0 clock.1 (c.begin_phase-begun.ensures.pass.1 ∙ c.requires.own.1))) (λ never. refl)
 
 pub gather-came-requires-clause-many : goal.gather-came-requires-clause-many
 gather-came-requires-clause-many g c =
-    let sent = c.in-Ok-jobs_of.ensures.sent c.requires.gone.held c.requires.gone.seen in
+    let sent = c.in-Ok-jobs_of.ensures.sent c.requires.reached.gone.held c.requires.reached.gone.seen in
     let run = if_false {Q = ((kept : List (ℕ × List Entry)) × HasRun c.begin_phase-begun.result.1 c.run_phase-end.result.root (vec_len c.in-Ok-jobs_of.jobs) kept × Runs {J = Post} {E = WorkerEnd} MayWork (view_of c.begin_phase-begun.result.1).known (view_of c.run_phase-end.result.root).front (c.begin_phase-begun.result.1.splits + 1) c.in-Ok-jobs_of.jobs.items c.run_phase-end.result.ends.items kept)}
     ((c.run_phase-end.result.root ≡ c.begin_phase-begun.result.1) × (c.run_phase-end.result.ends.items ≡ [])) c.run_phase-end.result.memory c.if-end.false c.run_phase-end.ensures.run in
-    ends_long c.args.means.now c.args.place c.requires.gone.held c.members-workers.result.now (view_of c.begin_phase-begun.result.1).known (view_of c.run_phase-end.result.root).front (c.begin_phase-begun.result.1.splits + 1) c.in-Ok-jobs_of.jobs.items c.run_phase-end.result.ends.items run.0 sent run.2
+    ends_long c.args.run.now.means.now c.args.place c.requires.reached.gone.held c.members-workers.result.now (view_of c.begin_phase-begun.result.1).known (view_of c.run_phase-end.result.root).front (c.begin_phase-begun.result.1.splits + 1) c.in-Ok-jobs_of.jobs.items c.run_phase-end.result.ends.items run.0 sent run.2
 
 pub gather-came-requires-clause-gateways : goal.gather-came-requires-clause-gateways
 gather-came-requires-clause-gateways g c =
-    let are = workers_here c.args.script.now c.args.place c.splits.result c.in-Ok.staff c.members-workers.result.now c.members-workers.ensures c.in-Ok.ensures (c.splits.ensures ∙ c.requires.seats) in
-    within_gateways c.args.script.now c.requires.lawful c.args.place c.args.phase.now c.requires.at c.members-workers.result.now (length c.jobs_of.new.sights.items) are (c.jobs_of.ensures.each ∙ c.requires.gone.each)
+    let are = workers_here c.args.run.now.script.now c.args.place c.splits.result c.in-Ok.staff c.members-workers.result.now c.members-workers.ensures c.in-Ok.ensures (c.splits.ensures ∙ c.requires.seats) in
+    within_gateways c.args.run.now.script.now c.requires.lawful c.args.place c.args.phase.now c.requires.at c.members-workers.result.now (length c.jobs_of.new.sights.items) are (c.jobs_of.ensures.each ∙ c.requires.reached.gone.each)
 
 pub gather-came-requires-clause-few : goal.gather-came-requires-clause-few
-gather-came-requires-clause-few g c = (let each = c.jobs_of.ensures.each in let gone = c.requires.gone.each in let few = c.requires.lawful.few_gateways in omega (arith, each, gone, few))
+gather-came-requires-clause-few g c = (let each = c.jobs_of.ensures.each in let gone = c.requires.reached.gone.each in let few = c.requires.lawful.few_gateways in omega (arith, each, gone, few))
 
 pub gather-came-requires-clause-places : goal.gather-came-requires-clause-places
 gather-came-requires-clause-places g c =
-    let are = workers_here c.args.script.now c.args.place c.splits.result c.in-Ok.staff c.members-workers.result.now c.members-workers.ensures c.in-Ok.ensures (c.splits.ensures ∙ c.requires.seats) in
-    within_tasks c.args.script.now c.requires.lawful c.args.place c.args.phase.now c.requires.at c.members-workers.result.now c.members.result.now are c.members.ensures
+    let are = workers_here c.args.run.now.script.now c.args.place c.splits.result c.in-Ok.staff c.members-workers.result.now c.members-workers.ensures c.in-Ok.ensures (c.splits.ensures ∙ c.requires.seats) in
+    within_tasks c.args.run.now.script.now c.requires.lawful c.args.place c.args.phase.now c.requires.at c.members-workers.result.now c.members.result.now are c.members.ensures
 
 pub returns-clause-seats : goal.returns-clause-seats
 returns-clause-seats g c =
-    let are = workers_here c.args.script.now c.args.place c.splits.result c.in-Ok.staff c.members-workers.result.now c.members-workers.ensures c.in-Ok.ensures (c.splits.ensures ∙ c.requires.seats) in
-    let sent = c.in-Ok-jobs_of.ensures.sent c.requires.gone.held c.requires.gone.seen in
+    let are = workers_here c.args.run.now.script.now c.args.place c.splits.result c.in-Ok.staff c.members-workers.result.now c.members-workers.ensures c.in-Ok.ensures (c.splits.ensures ∙ c.requires.seats) in
+    let sent = c.in-Ok-jobs_of.ensures.sent c.requires.reached.gone.held c.requires.reached.gone.seen in
     let run = if_false {Q = ((kept : List (ℕ × List Entry)) × HasRun c.begin_phase-begun.result.1 c.run_phase-end.result.root (vec_len c.in-Ok-jobs_of.jobs) kept × Runs {J = Post} {E = WorkerEnd} MayWork (view_of c.begin_phase-begun.result.1).known (view_of c.run_phase-end.result.root).front (c.begin_phase-begun.result.1.splits + 1) c.in-Ok-jobs_of.jobs.items c.run_phase-end.result.ends.items kept)}
     ((c.run_phase-end.result.root ≡ c.begin_phase-begun.result.1) × (c.run_phase-end.result.ends.items ≡ [])) c.run_phase-end.result.memory c.if-end.false c.run_phase-end.ensures.run in
-    let zipped = AllZip-as_long (IsPostOf c.args.means.now c.args.place c.requires.gone.held) c.members-workers.result.now c.in-Ok-jobs_of.jobs.items sent in
+    let zipped = AllZip-as_long (IsPostOf c.args.run.now.means.now c.args.place c.requires.reached.gone.held) c.members-workers.result.now c.in-Ok-jobs_of.jobs.items sent in
     let counted : vec_len c.in-Ok-jobs_of.jobs ≡ length c.members-workers.result.now = (let ok = c.in-Ok-jobs_of.jobs.ok in omega (arith, zipped)) in
     always c.gather-came.result
-    (next_seats c.args.script.now c.requires.lawful c.args.place c.args.phase.now c.requires.at c.begin_phase-begun.result.1.splits c.run_phase-end.result.root.splits (vec_len c.in-Ok-jobs_of.jobs) (c.begin_phase-begun.ensures.pass.2 ∙ c.requires.seats) (counted ∙ ap length are) (run.1).splits)
+    (next_seats c.args.run.now.script.now c.requires.lawful c.args.place c.args.phase.now c.requires.at c.begin_phase-begun.result.1.splits c.run_phase-end.result.root.splits (vec_len c.in-Ok-jobs_of.jobs) (c.begin_phase-begun.ensures.pass.2 ∙ c.requires.seats) (counted ∙ ap length are) (run.1).splits)
 
 pub returns-clause-all : goal.returns-clause-all
 returns-clause-all g c = c.run_phase-end.ensures.all (joined_on (view_of c.args.root) (view_of c.begin_phase-begun.result.1) c.begin_phase-begun.ensures.same c.requires.all)
 
 pub returns-clause-came : goal.returns-clause-came
 returns-clause-came g c =
-    let are = workers_here c.args.script.now c.args.place c.splits.result c.in-Ok.staff c.members-workers.result.now c.members-workers.ensures c.in-Ok.ensures (c.splits.ensures ∙ c.requires.seats) in
-    let sent = c.in-Ok-jobs_of.ensures.sent c.requires.gone.held c.requires.gone.seen in
+    let are = workers_here c.args.run.now.script.now c.args.place c.splits.result c.in-Ok.staff c.members-workers.result.now c.members-workers.ensures c.in-Ok.ensures (c.splits.ensures ∙ c.requires.seats) in
+    let sent = c.in-Ok-jobs_of.ensures.sent c.requires.reached.gone.held c.requires.reached.gone.seen in
     let clock = subst (IsClockSet c.args.phase.now (view_of c.args.root) (view_of c.begin_phase-begun.result.1)) c.in_default-begun.is c.begin_phase-begun.ensures.clock in
     let run = if_false {Q = ((kept : List (ℕ × List Entry)) × HasRun c.begin_phase-begun.result.1 c.run_phase-end.result.root (vec_len c.in-Ok-jobs_of.jobs) kept × Runs {J = Post} {E = WorkerEnd} MayWork (view_of c.begin_phase-begun.result.1).known (view_of c.run_phase-end.result.root).front (c.begin_phase-begun.result.1.splits + 1) c.in-Ok-jobs_of.jobs.items c.run_phase-end.result.ends.items kept)}
     ((c.run_phase-end.result.root ≡ c.begin_phase-begun.result.1) × (c.run_phase-end.result.ends.items ≡ [])) c.run_phase-end.result.memory c.if-end.false c.run_phase-end.ensures.run in
-    phase_comes c.args.script.now c.args.means.now.shelf c.args.place c.args.phase.now c.requires.at c.args.root c.args.standing.now.sights.items c.args.standing.now.outcomes c.requires.gone c.requires.own.1 c.begin_phase-begun.result.1 clock.0 clock.1
-    c.args.means.now c.requires.lent refl c.requires.lawful c.begin_phase-begun.result.1.splits (c.begin_phase-begun.ensures.pass.2 ∙ c.requires.seats) c.members-workers.result.now are c.in-Ok-jobs_of.jobs.items sent
-    c.run_phase-end.result.root (vec_len c.in-Ok-jobs_of.jobs) run.0 run.1 c.run_phase-end.result.ends.items run.2 c.gather-came.new.standing.sights.items c.gather-came.new.standing.outcomes c.gather-came.result (c.gather-came.ensures.each ∙ c.jobs_of.ensures.each)
-    (λ after own lasts have left. c.gather-came.ensures.gathers (setting_by c.args.script.now c.args.means.now.shelf) c.args.place c.args.phase.now c.requires.gone.held after (view_of c.run_phase-end.result.root).front run.0 own lasts (record { lawful = c.requires.lawful; at = c.requires.at; tasks = c.members.ensures; workers = are }) (gateways_counted c.args.script.now c.requires.lawful c.jobs_of.new.sights.items (c.jobs_of.ensures.each ∙ c.requires.gone.each)) have left
-    (c.in-Ok-jobs_of.ensures.left c.requires.gone.held c.requires.gone.seen))
+    let r = c.requires.reached in
+    phase_comes c.args.run.now.script.now c.args.run.now.means.now.shelf c.args.place c.args.phase.now c.requires.at c.args.root c.args.progress.now.sights.items r.outcomes r.gone c.requires.own.1 c.begin_phase-begun.result.1 clock.0 clock.1
+    c.args.run.now.means.now c.requires.lent refl c.requires.lawful c.begin_phase-begun.result.1.splits (c.begin_phase-begun.ensures.pass.2 ∙ c.requires.seats) c.members-workers.result.now are c.in-Ok-jobs_of.jobs.items sent
+    c.run_phase-end.result.root (vec_len c.in-Ok-jobs_of.jobs) run.0 run.1 c.run_phase-end.result.ends.items run.2
+    g.P.Report.tells c.args.progress.now.report r.told (record { sights = c.jobs_of.new.sights; report = c.args.progress.now.report }) c.gather-came.new.progress refl (c.gather-came.ensures.each ∙ c.jobs_of.ensures.each)
+    c.gather-came.result c.gather-came.ensures.came c.gather-came.ensures.unreported
+    (λ after made staff have left. c.gather-came.ensures.gathers (setting_by c.args.run.now.script.now c.args.run.now.means.now.shelf)
+    (record { number = c.args.place; phase = c.args.phase.now; before = r.gone.held; after = after; front = (view_of c.run_phase-end.result.root).front; made = made })
+    (record {
+      lawful = c.requires.lawful;
+      script_is = refl;
+      at = c.requires.at;
+      tasks = c.members.ensures;
+      workers = staff;
+      staff = are;
+      counted = gateways_counted c.args.run.now.script.now c.requires.lawful c.jobs_of.new.sights.items (c.jobs_of.ensures.each ∙ r.gone.each);
+      have = have;
+      left = left;
+      beside = c.in-Ok-jobs_of.ensures.left r.gone.held r.gone.seen;
+    }))
 
 -- ---- whether the full journal was met
 
@@ -162,54 +187,6 @@ returns-clause-unwanted g c = λ done.
     phase_unwanted (view_of c.run_phase-end.result.root).wanted (view_of c.begin_phase-begun.result.1).wanted _
     (clock_unwanted c.args.phase.now (view_of c.args.root) (view_of c.begin_phase-begun.result.1) c.begin_phase-begun.result.0 c.begin_phase-begun.ensures.clock c.in_default-begun.is c.requires.unwanted)
     (come_unwanted c.run_phase-end.result.ends.items c.gather-came.result c.gather-came.ensures.came done) c.run_phase-end.ensures.wanted
-
--- ---- what the report tells
-
-pub returns-in_default-clause-reported : goal.returns-in_default-clause-reported
-returns-in_default-clause-reported g c = λ before told. tt
-
-pub returns-in_default-clause-unreported : goal.returns-in_default-clause-unreported
-returns-in_default-clause-unreported g c = λ full. absurd (cc full)
-
-pub returns-in_default-clause-kept : goal.returns-in_default-clause-kept
-returns-in_default-clause-kept g c = refl
-
-pub returns-in_default-jobs_of-clause-reported : goal.returns-in_default-jobs_of-clause-reported
-returns-in_default-jobs_of-clause-reported g c = λ before told. tt
-
-pub returns-in_default-jobs_of-clause-unreported : goal.returns-in_default-jobs_of-clause-unreported
-returns-in_default-jobs_of-clause-unreported g c = λ full. absurd (cc full)
-
-pub returns-in_default-jobs_of-clause-kept : goal.returns-in_default-jobs_of-clause-kept
-returns-in_default-jobs_of-clause-kept g c = refl
-
-pub returns-in-Err-clause-reported : goal.returns-in-Err-clause-reported
-returns-in-Err-clause-reported g c = λ before told. tt
-
-pub returns-in-Err-clause-unreported : goal.returns-in-Err-clause-unreported
-returns-in-Err-clause-unreported g c = λ full. refl
-
-pub returns-in-Err-clause-kept : goal.returns-in-Err-clause-kept
-returns-in-Err-clause-kept g c = refl
-
-pub returns-then-end-clause-reported : goal.returns-then-end-clause-reported
-returns-then-end-clause-reported g c = λ before told. tt
-
-pub returns-then-end-clause-unreported : goal.returns-then-end-clause-unreported
-returns-then-end-clause-unreported g c = λ full. absurd (cc full)
-
-pub returns-then-end-clause-kept : goal.returns-then-end-clause-kept
-returns-then-end-clause-kept g c = refl
-
-pub returns-clause-reported : goal.returns-clause-reported
-returns-clause-reported g c = λ before told.
-    subst (λ (ts : List Task). OnOk c.gather-came.result (g.P.Report.tells c.gather-came.new.report c.args.script.now (before ++ ts) c.gather-came.new.standing.outcomes)) c.members.ensures (c.gather-came.ensures.reported before told)
-
-pub returns-clause-unreported : goal.returns-clause-unreported
-returns-clause-unreported g c = c.gather-came.ensures.unreported
-
-pub returns-clause-kept : goal.returns-clause-kept
-returns-clause-kept g c = c.gather-came.ensures.kept
 
 -- ---- jobs cross threads
 

@@ -1,4 +1,4 @@
-use Rattle.std.proofs.Common.{◌∙◌, ◌||◌, ℕ, List, [], sym, ap, subst}
+use Rattle.std.proofs.Common.{◌∙◌, ◌||◌, ℕ, List, [], refl, sym, ap, subst}
 use Rattle.script_running.specs.Lending.{AreTextsOf}
 use Rattle.script_running.specs.Shelves.{setting_by}
 use Rattle.world_core.specs.Asking.{IsAllAsked}
@@ -7,19 +7,20 @@ use Rattle.world_core.specs.declared.entry.Entry.{Entry}
 use Rattle.world_turn.specs.Opening.{opening_of}
 use Rattle.world_turn.specs.Passes.{view_of}
 use Rattle.world_turn.specs.declared.pass.Pass.{Pass}
-use Rattle.script_running.specs.Beside.{HasRunBeside}
 use Rattle.script_running.specs.Tasks.{is_full_came}
-use Rattle.script_running.specs.Outcomes.{Outcome}
 use Rattle.script_running.specs.declared.shelf.ShelfBlock.{ShelfBlock}
-use Rattle.script_running.proofs.Running.{first_gone, none_before, run_came}
+use Rattle.script_running.proofs.Running.{HasRunAndTold, first_gone, none_before, run_came}
 use Rattle.script_running.proofs.beside.run_beside.Goals as goal
 
 pub run_phases-came-requires-clause-seats : goal.run_phases-came-requires-clause-seats
-run_phases-came-requires-clause-seats g c = λ κs lives. c.in-Ok-open.ensures.pass.2 ∙ sym (none_before c.args.script.now)
+run_phases-came-requires-clause-seats g c = λ κs lives. c.in-Ok-open.ensures.pass.2 ∙ sym (none_before c.args.lent.now.script.now)
 
-pub run_phases-came-requires-clause-gone : goal.run_phases-came-requires-clause-gone
-run_phases-came-requires-clause-gone g c = λ κs lives.
-    first_gone (setting_by c.args.script.now c.lend-means.result.shelf) (opening_of g.B.Bucket.told c.args.world) (view_of c.in-Ok-open.root) c.in-Ok.standing.sights.items c.in-Ok.standing.outcomes c.in-Ok-open.ensures.pass.3 c.in-Ok.ensures.each c.in-Ok.ensures.unseen c.in-Ok.ensures.empty
+pub run_phases-came-requires-clause-reached : goal.run_phases-came-requires-clause-reached
+run_phases-came-requires-clause-reached g c = λ κs lives. record {
+  outcomes = [];
+  gone = first_gone (setting_by c.args.lent.now.script.now c.lend-means.result.shelf) (opening_of g.B.Bucket.told c.args.world) (view_of c.in-Ok-open.root) c.in-Ok.progress.sights.items [] c.in-Ok-open.ensures.pass.3 c.in-Ok.ensures.each c.in-Ok.ensures.unseen refl;
+  told = subst (λ report. g.P.Report.tells report c.args.lent.now.script.now [] []) (sym c.in-Ok.ensures.report) c.requires.untold;
+}
 
 pub returns-in-Ok-open-clause-tick : goal.returns-in-Ok-open-clause-tick
 returns-in-Ok-open-clause-tick g c = c.close-closed.ensures.closes.ticks ∙ c.run_phases-came.ensures.tick ∙ ap (λ v. v.tick) c.in-Ok-open.ensures.pass.3
@@ -30,8 +31,8 @@ returns-in-Ok-open-clause-ran g c =
     let kept : IsJournal c.close-closed.result.world.tick c.close-closed.result.world.journal =
     subst (λ (n : ℕ). IsJournal n c.close-closed.result.world.journal) (ap (λ w. w.tick) c.world-kept.ensures)
     (subst (λ (es : List Entry). IsJournal c.world-kept.result.now.tick es) (ap (λ w. w.journal) c.world-kept.ensures) c.journal-after.ensures.holds.journal) in
-    subst (λ (s : List ShelfBlock). HasRunBeside (setting_by c.args.script.now s) c.close-closed.result.world.journal c.run_phases-came.new.standing.outcomes c.run_phases-came.result.0) c.lend-means.ensures.shelf
-    (run_came (setting_by c.args.script.now c.lend-means.result.shelf) (view_of c.run_phases-came.result.1) c.close-closed.result.world.tick c.close-closed.result.world.journal c.run_phases-came.new.standing.sights.items c.run_phases-came.new.standing.outcomes c.run_phases-came.result.0 c.requires.lawful c.close-closed.ensures.closes c.run_phases-came.ensures.all
+    subst (λ (s : List ShelfBlock). HasRunAndTold g.P.Report.tells (setting_by c.args.lent.now.script.now s) c.close-closed.result.world.journal c.run_phases-came.new.progress.report c.run_phases-came.result.0) c.lend-means.ensures.shelf
+    (run_came g.P.Report.tells (setting_by c.args.lent.now.script.now c.lend-means.result.shelf) (view_of c.run_phases-came.result.1) c.close-closed.result.world.tick c.close-closed.result.world.journal c.run_phases-came.new.progress c.run_phases-came.result.0 c.requires.lawful c.close-closed.ensures.closes c.run_phases-came.ensures.all
     kept tick c.run_phases-came.ensures.came)
 
 pub returns-in-Ok-open-clause-refused : goal.returns-in-Ok-open-clause-refused
@@ -51,11 +52,5 @@ returns-in-Ok-open-clause-all g c = λ never before was.
 pub returns-in-Ok-open-clause-unwanted : goal.returns-in-Ok-open-clause-unwanted
 returns-in-Ok-open-clause-unwanted g c = λ done. ap (λ (p : Pass). (view_of p).wanted) c.close-closed.ensures.root ∙ c.run_phases-came.ensures.unwanted done
 
-pub run_phases-came-requires-clause-untold : goal.run_phases-came-requires-clause-untold
-run_phases-came-requires-clause-untold g c = λ κs lives. subst (λ (os : List Outcome). g.P.Report.tells c.args.report.now c.args.script.now [] os) (sym c.in-Ok.ensures.empty) c.requires.untold
-
-pub returns-in-Ok-open-clause-reported : goal.returns-in-Ok-open-clause-reported
-returns-in-Ok-open-clause-reported g c = c.run_phases-came.ensures.reported
-
 pub lend-means-requires-clause-texts : goal.lend-means-requires-clause-texts
-lend-means-requires-clause-texts g c = subst (AreTextsOf c.args.script.now.selectors) (sym c.members.ensures) c.in-Ok-selector_texts.ensures
+lend-means-requires-clause-texts g c = subst (AreTextsOf c.args.lent.now.script.now.selectors) (sym c.members.ensures) c.in-Ok-selector_texts.ensures

@@ -3,8 +3,7 @@ use Rattle.script_core.specs.Workers.{seats_before}
 use Rattle.script_running.specs.Shelves.{setting_by}
 use Rattle.world_turn.specs.Closing.{AllJoined}
 use Rattle.world_turn.specs.Passes.{table_of, view_of}
-use Rattle.script_running.specs.Going.{HasGone}
-use Rattle.script_running.proofs.Reporting.{tasks_in}
+use Rattle.script_running.specs.Going.{HasReached}
 use Rattle.script_running.proofs.beside.run_phases.Given as goal
 
 -- the phases so far are finished
@@ -15,8 +14,7 @@ invariant-loop-place g l = record {
   tick : (view_of l.root).tick ≡ (view_of l.initial.root).tick;
   refused : (view_of l.root).refused ≡ (view_of l.initial.root).refused;
   unwanted : (view_of l.root).wanted ≡ false;
-  seats : l.root.splits ≡ seats_before l.script l.place;
+  seats : l.root.splits ≡ seats_before l.run.script.now l.place;
   all : AllJoined (view_of l.root);
-  reported : g.P.Report.tells l.report l.script (tasks_in (take l.place l.script.phases)) l.standing.outcomes;
-  gone : HasGone (setting_by l.script l.means.shelf) (view_of l.root) (take l.place l.script.phases) l.standing.sights.items l.standing.outcomes;
+  reached : HasReached g.P.Report.tells (setting_by l.run.script.now l.run.means.now.shelf) (view_of l.root) (take l.place l.run.script.now.phases) l.progress;
 }

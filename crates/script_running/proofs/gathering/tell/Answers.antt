@@ -1,26 +1,22 @@
-use Rattle.std.proofs.Common.{◌++◌, List, sym, subst, take}
-use Rattle.script_workers.specs.declared.task.Task.{Task}
-use Rattle.script_running.proofs.Telling.{left_more, tasks_next, told_next}
-use Rattle.script_running.proofs.Gathers.{more_first}
+use Rattle.std.proofs.Common.{arith}
+use Rattle.script_running.proofs.Gathers.{done_so}
+use Rattle.script_running.proofs.Telling.{left_all, left_more, told_all, told_next, told_none}
 use Rattle.script_running.proofs.gathering.tell.Goals as goal
 
-pub returns-clause-more : goal.returns-clause-more
-returns-clause-more g c = (c.loop-place.invariant.told.0, sym c.loop-place.invariant.told.1)
-
-pub returns-in_default-clause-more : goal.returns-in_default-clause-more
-returns-in_default-clause-more g c = (c.loop-place.invariant.told.0, sym c.loop-place.invariant.told.1)
-
-pub returns-in_default-tell_one-clause-more : goal.returns-in_default-tell_one-clause-more
-returns-in_default-tell_one-clause-more g c = let t = c.loop-place.invariant.told in more_first c.args.outcomes.now c.loop-place.outcomes c.tell_one.new.outcomes (t.0, sym t.1) c.tell_one.ensures.more
+pub loop-place-init : goal.loop-place-init
+loop-place-init g c = record {
+  told = told_none g.P.Report.tells c.args.phase.now.script.now c.args.slots c.args.phase.now.tasks.now c.args.report.now;
+  left = left_all c.args.slots;
+}
 
 pub loop-place-preserved : goal.loop-place-preserved
 loop-place-preserved g c =
     let i = c.loop-place.invariant in
     record {
-      told = told_next c.args.slots c.loop-place.slots c.loop-place.place c.args.phase.now.tasks.now c.index-tasks-place.result c.args.outcomes.now c.loop-place.outcomes c.tell_one.new.outcomes i.left c.loop-place-test.true c.index-tasks-place.is i.told (c.in-Ok.outcome, c.in-Ok-tell_one.ensures.told, c.in-Ok.ensures.told);
+      told = told_next g.P.Report.tells c.args.phase.now.script.now c.args.slots c.args.phase.now.tasks.now c.args.report.now c.loop-place.slots c.loop-place.place c.index-tasks-place.result c.loop-place.report c.add-told.new.self
+          i.left c.loop-place-test.true c.index-tasks-place.is i.told (c.in-Ok.outcome, c.in-Ok.ensures.told, λ before outcomes told. done_so c.add-told.result c.in-Ok-told.is (c.add-told.ensures before outcomes told));
       left = left_more c.loop-place.place c.args.slots c.loop-place.slots c.outcome_at.new.slots i.left c.in-Ok.ensures.taken;
-      reported = λ before told.
-          subst (λ (ts : List Task). g.P.Report.tells c.tell_one.new.report c.args.phase.now.script.now ts c.tell_one.new.outcomes)
-          (tasks_next before c.args.phase.now.tasks.now c.loop-place.place c.index-tasks-place.result c.loop-place-test.true c.index-tasks-place.is)
-          (c.in-Ok-tell_one.ensures.reported (before ++ take c.loop-place.place c.args.phase.now.tasks.now) (i.reported before told));
     }
+
+pub returns-clause-told : goal.returns-clause-told
+returns-clause-told g c = told_all g.P.Report.tells c.args.phase.now.script.now c.args.slots c.args.phase.now.tasks.now c.args.report.now c.loop-place.place c.loop-place.report (omega (arith, c.loop-place-test.false)) c.loop-place.invariant.told

@@ -1,4 +1,4 @@
-use Rattle.std.proofs.Common.{List, length, refl, sym, subst}
+use Rattle.std.proofs.Common.{true, false, List, length, sym, subst}
 use Rattle.std.specs.Prelude.{Err, FitsSigned, IfSome, Ok, Option}
 use Rattle.std.specs.Int.{w64}
 use Rattle.std.proofs.lemmas.Int.{to_z-of_z}
