@@ -1,5 +1,6 @@
 -- What the lines of a report tell, one after another.
 use Rattle.std.proofs.Common.{◌≡◌, ℕ, ◌<◌, ◌≤◌, Bool, true, false, nat_lt, ◌==◌, List, [], ◌∷◌, ◌++◌, length, refl, ap, sym, ◌∙◌, arith, append_assoc, append-nil}
+use Rattle.std.specs.Prelude.{Option}
 use Rattle.std.specs.List.{position_or_len, before_first, after_first}
 use Rattle.std.proofs.lemmas.List.{drop_all, take_all}
 use Rattle.std.proofs.lemmas.List.Splits.{slice_split_first, slice_split_none}
@@ -12,7 +13,7 @@ use Rattle.run_messages.specs.declared.told.Told.{Told}
 -- the empty line tells nothing
 pub told_empty : (tasks : ℕ) → told_by tasks (lines_of []) ≡ []
 unfolding told_by spoken
-told_empty tasks = ?
+told_empty tasks = refl
 
 -- what is told of a line, and then of the lines behind it
 abbrev first_and_rest : ℕ → List ℕ → List (List ℕ) → List Told
@@ -43,7 +44,12 @@ module _ (tasks : ℕ) (text : List ℕ) where
 -- what was told of the front, with what the lines that are left tell, is what all tell
 pub tells_on : (tasks now : ℕ) (text line rest : List ℕ) (said : Option (List ℕ)) (told more whole : List Told) → line ≡ before_first is_newline text → rest ≡ after_first is_newline text → said ≡ spoken line
     → now ≡ tasks_with tasks said → more ≡ told ++ told_with now said → told ++ told_by tasks (lines_of text) ≡ whole → more ++ told_by now (lines_of rest) ≡ whole
-tells_on tasks now text line rest said told more whole line_is rest_is said_is now_is more_is so_far = ?
+tells_on tasks now text line rest said told more whole line_is rest_is said_is now_is more_is so_far =
+    let said_now : spoken (before_first is_newline text) ≡ said = ap spoken (sym line_is) ∙ sym said_is in
+    let next : told_by tasks (lines_of text) ≡ told_with now said ++ told_by now (lines_of (after_first is_newline text)) =
+        told_next tasks text ∙ ap (λ (spoke : Option (List ℕ)). told_with (tasks_with tasks spoke) spoke ++ told_by (tasks_with tasks spoke) (lines_of (after_first is_newline text))) said_now
+        ∙ ap (λ (t : ℕ). told_with t said ++ told_by t (lines_of (after_first is_newline text))) (sym now_is) in
+    rw (more_is, rest_is) (append_assoc told (told_with now said) (told_by now (lines_of (after_first is_newline text))) ∙ ap (λ (r : List Told). told ++ r) (sym next) ∙ so_far)
 
 pub told_whole : (tasks : ℕ) (text : List ℕ) (told whole : List Told) → (length text == 0) ≡ true → told ++ told_by tasks (lines_of text) ≡ whole → told ≡ whole
 told_whole tasks [] told whole none so_far = sym (append-nil told) ∙ ap (λ (rest : List Told). told ++ rest) (sym (told_empty tasks)) ∙ so_far
