@@ -7,7 +7,7 @@ use Rattle.run_messages.specs.declared.told.Told.{Told}
 
 -- the line is one of an answer's series
 abbrev pub is_of_series : List ℕ → Bool
-is_of_series line = bytes_eq (take 7 line) (codes "series ")
+is_of_series line = bytes_eq (codes "series ") (take 7 line)
 
 -- a line that may tell of a failure
 unfoldable pub spoken : List ℕ → Option (List ℕ)
