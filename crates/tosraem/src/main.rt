@@ -35,7 +35,7 @@ use std::process::ExitCode;
 use std::sync::Wait;
 use std::thread::Threads;
 use std::{env, io};
-use world_core::Journal;
+use world_core::{Entry, Journal};
 
 fn main(rt: HostRuntime) -> ExitCode {
     let alloc = rt.alloc();
@@ -84,9 +84,9 @@ fn messages_of(
     let Some(told) = told else {
         return Vec::new(alloc);
     };
-    let entries = match journal {
+    let entries: &[Entry] = match journal {
         Some(journal) => journal.entries(),
-        None => &[],
+        None => Default::default(),
     };
     match messages(alloc, told, script.unwrap_or_default(), entries) {
         Ok(messages) => messages,
