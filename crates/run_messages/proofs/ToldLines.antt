@@ -47,8 +47,8 @@ pub tells_on : (tasks now : ℕ) (text line rest : List ℕ) (said : Option (Lis
 tells_on tasks now text line rest said told more whole line_is rest_is said_is now_is more_is so_far =
     let said_now : spoken (before_first is_newline text) ≡ said = ap spoken (sym line_is) ∙ sym said_is in
     let next : told_by tasks (lines_of text) ≡ told_with now said ++ told_by now (lines_of (after_first is_newline text)) =
-        told_next tasks text ∙ ap (λ (spoke : Option (List ℕ)). told_with (tasks_with tasks spoke) spoke ++ told_by (tasks_with tasks spoke) (lines_of (after_first is_newline text))) said_now
-        ∙ ap (λ (t : ℕ). told_with t said ++ told_by t (lines_of (after_first is_newline text))) (sym now_is) in
+    told_next tasks text ∙ ap (λ (spoke : Option (List ℕ)). told_with (tasks_with tasks spoke) spoke ++ told_by (tasks_with tasks spoke) (lines_of (after_first is_newline text))) said_now
+    ∙ ap (λ (t : ℕ). told_with t said ++ told_by t (lines_of (after_first is_newline text))) (sym now_is) in
     rw (more_is, rest_is) (append_assoc told (told_with now said) (told_by now (lines_of (after_first is_newline text))) ∙ ap (λ (r : List Told). told ++ r) (sym next) ∙ so_far)
 
 pub told_whole : (tasks : ℕ) (text : List ℕ) (told whole : List Told) → (length text == 0) ≡ true → told ++ told_by tasks (lines_of text) ≡ whole → told ≡ whole

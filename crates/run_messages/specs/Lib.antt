@@ -1,6 +1,7 @@
 pub mod Breaches
 pub mod Calls
 pub mod Dates
+pub mod Delays
 pub mod Findings
 pub mod Messages
 pub mod Places

@@ -8,6 +8,7 @@ mod finding;
 mod of_calls;
 mod pieces;
 mod places;
+mod rule_conflict;
 mod script_finding;
 mod sentences;
 mod telling;

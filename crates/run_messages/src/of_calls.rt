@@ -1,11 +1,14 @@
 //! The messages on a call, from the failures that its report tells of, the text of its script and its journal.
 
 ghost use Rattle.std.specs.Prelude.{◌≡◌, IfOk};
-ghost use Rattle.run_messages.specs.Calls.{AreCallMessages, AreLinesOf};
+ghost use Rattle.run_messages.specs.Calls.{AreCallMessages, AreLinesOf, tells_of_rules};
 
+use crate::finding::Finding;
 use crate::places::task_lines;
+use crate::rule_conflict::put_conflict;
+use crate::script_finding::ScriptFinding;
 use crate::telling::put_messages;
-use crate::told::ToldList;
+use crate::told::{Told, ToldList};
 use base::NoMemory;
 use script_core::{Script, ScriptRefusal};
 use std::alloc::Global;
@@ -27,7 +30,20 @@ pub fn messages(
     }
     let lines = script_lines(alloc, script)?;
     put_messages(&mut out, told, &lines, journal)?;
+    if tells_of_rules(told.members()) {
+        put_conflict(&mut out, script)?;
+    }
     Ok(out)
+}
+
+/// Whether the first failure is that the rules of the script disagree.
+fn tells_of_rules(told: &[Told]) -> bool
+    ensures { result ≡ tells_of_rules told.now }
+{
+    match told {
+        [first, ..] => first.finding == Finding::Script(ScriptFinding::BadRules),
+        [] => false,
+    }
 }
 
 /// The lines of a script's tasks. Of a text that is no script there are none.

@@ -34,7 +34,7 @@ pub(crate) fn put_message(
     put_text(out, "\n")
 }
 
-fn put_text(out: &mut Vec<u8>, text: &str) -> Result<(), NoMemory>
+pub(crate) fn put_text(out: &mut Vec<u8>, text: &str) -> Result<(), NoMemory>
     ensures { OnOk result (out.new.items ≡ out.old.items ++ text.now) }
 {
     out.extend_from_slice(text.as_bytes())?;

@@ -40,7 +40,7 @@ pub fn told_in(alloc: Global, report: &[u8]) -> Result<ToldList, NoMemory>
 
 /// The text of a line that may tell of a failure. Those of an answer's series are passed over, as there are many and long ones.
 #[tactic(auto, unfolding(crate::specs::Told::spoken))]
-fn spoken(line: &[u8]) -> Option<&str>
+pub(crate) fn spoken(line: &[u8]) -> Option<&str>
     ensures { option_copied result ≡ spoken line.now }
 {
     if is_of_series(line) {
