@@ -1,0 +1,8 @@
+use Rattle.std.proofs.Common.{refl, sym}
+use Rattle.run_messages.proofs.ToldLines.{tells_on, told_whole}
+use Rattle.run_messages.proofs.told.told_in.Goals as goal
+
+pub loop-left-preserved : goal.loop-left-preserved
+loop-left-preserved c =
+    tells_on c.loop-left.tasks c.tasks_with.result c.loop-left.left.now c.cut_line.result.0.now c.cut_line.result.1.now _ c.loop-left.told c.add_told.new.told _
+    c.cut_line.ensures.line c.cut_line.ensures.rest c.spoken.ensures c.tasks_with.ensures c.in_ok-add_told.ensures c.loop-left.invariant

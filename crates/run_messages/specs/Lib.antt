@@ -1,0 +1,10 @@
+pub mod Breaches
+pub mod Calls
+pub mod Dates
+pub mod Delays
+pub mod Findings
+pub mod Messages
+pub mod Places
+pub mod ScriptFindings
+pub mod Sentences
+pub mod Told

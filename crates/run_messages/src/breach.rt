@@ -1,0 +1,109 @@
+//! The last line of a report, which tells the breach of its journal.
+
+ghost use Rattle.std.specs.Prelude.{◌≡◌, option_copied};
+ghost use Rattle.std.specs.Result.{result_ok};
+ghost use Rattle.base.specs.Decimal.{unsigned_of};
+ghost use Rattle.run_messages.specs.Breaches.{before_colon, breach_of, breach_with, rule_of};
+
+use base::read_unsigned;
+use script_fields::next_field;
+
+/// What a breach broke.
+#[derive(Clone, Copy, Debug, PartialEq, Eq)]
+pub enum BrokenRule {
+    Honesty,
+    Upload,
+    Mark,
+    Sync,
+    View,
+    Compaction,
+}
+
+/// A breach: its rule, its entry, and the two numbers behind it.
+#[derive(Clone, Copy, Debug, PartialEq, Eq)]
+pub struct Breach {
+    pub rule: BrokenRule,
+    pub entry: u64,
+    pub found: u64,
+    pub allowed: u64,
+}
+
+/// The breach that a line tells behind its first word, as in `breach Z4 entry 63: 266400101 over 174600001`.
+#[tactic(auto, unfolding(crate::specs::Breaches::breach_of))]
+pub(crate) fn breach_of(left: Option<&str>) -> Option<Breach>
+    ensures { result ≡ breach_of (option_copied left.entry) }
+{
+    let (rule, left) = next_field(left);
+    let (_, left) = next_field(left);
+    let (entry, left) = next_field(left);
+    let (found, left) = next_field(left);
+    let (_, left) = next_field(left);
+    let (allowed, _) = next_field(left);
+    breach_with(
+        rule_of(rule),
+        number_of(before_colon(entry)),
+        number_of(found),
+        number_of(allowed),
+    )
+}
+
+/// The breach, where all of it is told.
+#[tactic(auto, unfolding(crate::specs::Breaches::breach_with))]
+fn breach_with(
+    rule: Option<BrokenRule>,
+    entry: Option<u64>,
+    found: Option<u64>,
+    allowed: Option<u64>,
+) -> Option<Breach>
+    ensures { result ≡ breach_with rule entry found allowed }
+{
+    let (Some(rule), Some(entry)) = (rule, entry) else {
+        return None;
+    };
+    let (Some(found), Some(allowed)) = (found, allowed) else {
+        return None;
+    };
+    Some(Breach {
+        rule,
+        entry,
+        found,
+        allowed,
+    })
+}
+
+fn number_of(text: &str) -> Option<u64>
+    ensures { result ≡ result_ok (unsigned_of text.now) }
+{
+    read_unsigned(text).ok()
+}
+
+#[tactic(auto, unfolding(crate::specs::Breaches::before_colon))]
+fn before_colon(text: &str) -> &str
+    ensures { result.now ≡ before_colon text.now }
+{
+    match text.split_once(':') {
+        Some((before, _)) => before,
+        None => text,
+    }
+}
+
+#[tactic(auto, unfolding(crate::specs::Breaches::rule_of))]
+fn rule_of(word: &str) -> Option<BrokenRule>
+    ensures { result ≡ rule_of word.now }
+{
+    if word == "bucket" {
+        Some(BrokenRule::Honesty)
+    } else if word == "Z1" {
+        Some(BrokenRule::Upload)
+    } else if word == "Z2" {
+        Some(BrokenRule::Mark)
+    } else if word == "Z3" {
+        Some(BrokenRule::Sync)
+    } else if word == "Z4" {
+        Some(BrokenRule::View)
+    } else if word == "Z5" {
+        Some(BrokenRule::Compaction)
+    } else {
+        None
+    }
+}

@@ -1,0 +1,92 @@
+//! The lines of a report that tell of failures.
+
+ghost use Rattle.std.specs.Prelude.{◌≡◌, ◌++◌, IfOk, OnOk, option_copied};
+ghost use Rattle.script_fields.specs.Fields.{lines_of};
+ghost use Rattle.run_messages.specs.Told.{spoken, is_of_series, told_by, told_with, tasks_with};
+
+use crate::finding::{Finding, finding_of, is_task};
+use base::{List, NoMemory};
+use label_sets::Text;
+use script_fields::cut_line;
+use std::alloc::Global;
+
+/// A line of a report that tells of a failure, and how many tasks the report has told of with it.
+#[derive(Drop)]
+pub struct Told {
+    pub task: u64,
+    pub line: Text,
+    pub finding: Finding,
+}
+
+/// Lines of a report that tell of failures.
+pub type ToldList = List<Told>;
+
+/// The lines of a report that tell of failures, in their order.
+pub fn told_in(alloc: Global, report: &[u8]) -> Result<ToldList, NoMemory>
+    ensures { IfOk result (λ told. told ≡ told_by 0 (lines_of report.now)) }
+{
+    let mut told = List::new(alloc);
+    let mut tasks = 0u64;
+    let mut left = report;
+    while !left.is_empty() {
+        let (line, rest) = cut_line(left);
+        let line = spoken(line);
+        tasks = tasks_with(tasks, line);
+        add_told(&mut told, alloc, tasks, line)?;
+        left = rest;
+    }
+    Ok(told)
+}
+
+/// The text of a line that may tell of a failure. Those of an answer's series are passed over, as there are many and long ones.
+#[tactic(auto, unfolding(crate::specs::Told::spoken))]
+pub(crate) fn spoken(line: &[u8]) -> Option<&str>
+    ensures { option_copied result ≡ spoken line.now }
+{
+    if is_of_series(line) {
+        return None;
+    }
+    match str::from_utf8(line) {
+        Ok(line) => Some(line),
+        Err(_) => None,
+    }
+}
+
+fn is_of_series(line: &[u8]) -> bool
+    ensures { result ≡ is_of_series line.now }
+{
+    line.starts_with(b"series ")
+}
+
+/// How many tasks a report has told of with this line.
+fn tasks_with(tasks: u64, line: Option<&str>) -> u64
+    ensures { result ≡ tasks_with tasks (option_copied line.entry) }
+{
+    match line {
+        Some(line) if is_task(line) => tasks.saturating_add(1),
+        _ => tasks,
+    }
+}
+
+/// Adds a line that tells of a failure.
+fn add_told(
+    told: &mut ToldList,
+    alloc: Global,
+    task: u64,
+    line: Option<&str>,
+) -> Result<(), NoMemory>
+    ensures { OnOk result (told.new ≡ told.old ++ told_with task (option_copied line.entry)) }
+{
+    let Some(line) = line else {
+        return Ok(());
+    };
+    let Some(finding) = finding_of(line) else {
+        return Ok(());
+    };
+    let line = Text::from_str(alloc, line)?;
+    told.push(Told {
+        task,
+        line,
+        finding,
+    })
+}
