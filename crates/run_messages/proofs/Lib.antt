@@ -1,1 +1,4 @@
+pub mod LineWalks
+pub mod RuleLines
+pub mod TaskLines
 pub mod ToldLines

@@ -6,18 +6,18 @@ use Rattle.std.specs.Str.{byte as code, bytes_eq}
 use Rattle.base.specs.Decimal.{unsigned_of}
 use Rattle.script_fields.specs.Fields.{next_field}
 use Rattle.run_messages.specs.declared.breach.Breach.{Breach}
-use Rattle.run_messages.specs.declared.breach.BrokenRule.{BrokenRule}
-use Rattle.run_messages.specs.declared.breach.BrokenRule.TheVariants.{Honesty, Upload, Mark, Sync, View, Compaction}
+use Rattle.run_messages.specs.declared.breach.BreachRule.{BreachRule}
+use Rattle.run_messages.specs.declared.breach.BreachRule.TheVariants.{Bucket, UploadTime, MarkTime, SyncTime, ViewTime, ReadTime}
 
 -- the rule that a word of the line names
-unfoldable pub rule_of : List ℕ → Option BrokenRule
+unfoldable pub rule_of : List ℕ → Option BreachRule
 rule_of word =
-    if bytes_eq word (codes "bucket") then Some Honesty
-    else if bytes_eq word (codes "Z1") then Some Upload
-    else if bytes_eq word (codes "Z2") then Some Mark
-    else if bytes_eq word (codes "Z3") then Some Sync
-    else if bytes_eq word (codes "Z4") then Some View
-    else if bytes_eq word (codes "Z5") then Some Compaction
+    if bytes_eq word (codes "bucket") then Some Bucket
+    else if bytes_eq word (codes "Z1") then Some UploadTime
+    else if bytes_eq word (codes "Z2") then Some MarkTime
+    else if bytes_eq word (codes "Z3") then Some SyncTime
+    else if bytes_eq word (codes "Z4") then Some ViewTime
+    else if bytes_eq word (codes "Z5") then Some ReadTime
     else None
 
 abbrev pub is_colon : ℕ → Bool
@@ -27,7 +27,7 @@ unfoldable pub before_colon : List ℕ → List ℕ
 before_colon text = if nat_lt (position_or_len is_colon text) (length text) then before_first is_colon text else text
 
 -- the breach, where all of it is told
-unfoldable pub breach_with : Option BrokenRule → Option ℕ → Option ℕ → Option ℕ → Option Breach
+unfoldable pub breach_with : Option BreachRule → Option ℕ → Option ℕ → Option ℕ → Option Breach
 breach_with (Some rule) (Some entry) (Some found) (Some allowed) = Some (record { rule = rule; entry = entry; found = found; allowed = allowed })
 breach_with _ _ _ _ = None
 

@@ -13,8 +13,8 @@ use Rattle.world_core.specs.declared.op.Op.TheVariants as ops
 use Rattle.run_messages.specs.Dates.{IsDateOf}
 use Rattle.run_messages.specs.Sentences.{sentence_of}
 use Rattle.run_messages.specs.declared.breach.Breach.{Breach}
-use Rattle.run_messages.specs.declared.breach.BrokenRule.{BrokenRule}
-use Rattle.run_messages.specs.declared.breach.BrokenRule.TheVariants as rules
+use Rattle.run_messages.specs.declared.breach.BreachRule.{BreachRule}
+use Rattle.run_messages.specs.declared.breach.BreachRule.TheVariants as rules
 use Rattle.run_messages.specs.declared.finding.Finding.{Finding}
 use Rattle.run_messages.specs.declared.finding.Finding.TheVariants as findings
 use Rattle.run_messages.specs.declared.told.Told.{Told}
@@ -63,13 +63,13 @@ entry_words (Some entry) date = codes "Entry " ++ decimal_text entry.seq ++ code
 unfoldable pub span_words : ℕ → List ℕ
 span_words ms = decimal_text ms ++ codes " ms (" ++ decimal_text (ms / 3_600_000) ++ codes " h " ++ decimal_text (ms / 60_000 % 60) ++ codes " min)"
 
-abbrev pub passed_by : BrokenRule → ℕ → List ℕ
-passed_by rules.Honesty ms = []
-passed_by rules.Upload ms = codes " That is passed by " ++ span_words ms ++ codes "."
-passed_by rules.Mark ms = codes " That is passed by " ++ span_words ms ++ codes "."
-passed_by rules.Sync ms = codes " That is passed by " ++ span_words ms ++ codes "."
-passed_by rules.View ms = codes " That is passed by " ++ span_words ms ++ codes "."
-passed_by rules.Compaction ms = codes " That is passed by " ++ span_words ms ++ codes "."
+abbrev pub passed_by : BreachRule → ℕ → List ℕ
+passed_by rules.Bucket ms = []
+passed_by rules.UploadTime ms = codes " That is passed by " ++ span_words ms ++ codes "."
+passed_by rules.MarkTime ms = codes " That is passed by " ++ span_words ms ++ codes "."
+passed_by rules.SyncTime ms = codes " That is passed by " ++ span_words ms ++ codes "."
+passed_by rules.ViewTime ms = codes " That is passed by " ++ span_words ms ++ codes "."
+passed_by rules.ReadTime ms = codes " That is passed by " ++ span_words ms ++ codes "."
 
 -- by how much a rule of time was broken
 unfoldable pub excess_words : Finding → List ℕ

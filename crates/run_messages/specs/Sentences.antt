@@ -1,8 +1,8 @@
 -- The sentences of causes.
 use Rattle.std.specs.Prelude.{ℕ, List, [], ◌==◌, if◌then◌else◌, codes}
 use Rattle.run_messages.specs.ScriptFindings.{script_words}
-use Rattle.run_messages.specs.declared.breach.BrokenRule.{BrokenRule}
-use Rattle.run_messages.specs.declared.breach.BrokenRule.TheVariants.{Honesty, Upload, Mark, Sync, View, Compaction}
+use Rattle.run_messages.specs.declared.breach.BreachRule.{BreachRule}
+use Rattle.run_messages.specs.declared.breach.BreachRule.TheVariants.{Bucket, UploadTime, MarkTime, SyncTime, ViewTime, ReadTime}
 use Rattle.run_messages.specs.declared.finding.Finding.{Finding}
 use Rattle.run_messages.specs.declared.finding.Finding.TheVariants.{Fault, Missing, Damaged, Refused, NoView, TooMany, TooLarge, Script, Breach}
 
@@ -25,13 +25,13 @@ refused_words number =
     else []
 
 -- what a breach of a rule means
-abbrev pub breach_words : BrokenRule → List ℕ
-breach_words Honesty = codes "The reply shows something else than what stands there: the bucket lied, or somebody else wrote in it."
-breach_words Upload = codes "Its block may be put from the time of its ULID on, and not later than the upload limit after it."
-breach_words Mark = codes "A mark may not land later than the ignore delay after the second in it."
-breach_words Sync = codes "A sync may not read for longer than the ignore delay, less a second."
-breach_words View = codes "Its gateway had not synced for too long: the view by which it read was too old."
-breach_words Compaction = codes "A compaction may not read for longer than half of the delete delay."
+abbrev pub breach_words : BreachRule → List ℕ
+breach_words Bucket = codes "The reply shows something else than what stands there: the bucket lied, or somebody else wrote in it."
+breach_words UploadTime = codes "Its block may be put from the time of its ULID on, and not later than the upload limit after it."
+breach_words MarkTime = codes "A mark may not land later than the ignore delay after the second in it."
+breach_words SyncTime = codes "A sync may not read for longer than the ignore delay, less a second."
+breach_words ViewTime = codes "Its gateway had not synced for too long: the view by which it read was too old."
+breach_words ReadTime = codes "A compaction may not read for longer than half of the delete delay."
 
 abbrev pub sentence_of : Finding → List ℕ
 sentence_of (Fault entry) = codes "The bucket failed."

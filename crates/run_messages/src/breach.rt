@@ -10,19 +10,19 @@ use script_fields::next_field;
 
 /// What a breach broke.
 #[derive(Clone, Copy, Debug, PartialEq, Eq)]
-pub enum BrokenRule {
-    Honesty,
-    Upload,
-    Mark,
-    Sync,
-    View,
-    Compaction,
+pub enum BreachRule {
+    Bucket,
+    UploadTime,
+    MarkTime,
+    SyncTime,
+    ViewTime,
+    ReadTime,
 }
 
 /// A breach: its rule, its entry, and the two numbers behind it.
 #[derive(Clone, Copy, Debug, PartialEq, Eq)]
 pub struct Breach {
-    pub rule: BrokenRule,
+    pub rule: BreachRule,
     pub entry: u64,
     pub found: u64,
     pub allowed: u64,
@@ -50,7 +50,7 @@ pub(crate) fn breach_of(left: Option<&str>) -> Option<Breach>
 /// The breach, where all of it is told.
 #[tactic(auto, unfolding(crate::specs::Breaches::breach_with))]
 fn breach_with(
-    rule: Option<BrokenRule>,
+    rule: Option<BreachRule>,
     entry: Option<u64>,
     found: Option<u64>,
     allowed: Option<u64>,
@@ -88,21 +88,21 @@ fn before_colon(text: &str) -> &str
 }
 
 #[tactic(auto, unfolding(crate::specs::Breaches::rule_of))]
-fn rule_of(word: &str) -> Option<BrokenRule>
+fn rule_of(word: &str) -> Option<BreachRule>
     ensures { result ≡ rule_of word.now }
 {
     if word == "bucket" {
-        Some(BrokenRule::Honesty)
+        Some(BreachRule::Bucket)
     } else if word == "Z1" {
-        Some(BrokenRule::Upload)
+        Some(BreachRule::UploadTime)
     } else if word == "Z2" {
-        Some(BrokenRule::Mark)
+        Some(BreachRule::MarkTime)
     } else if word == "Z3" {
-        Some(BrokenRule::Sync)
+        Some(BreachRule::SyncTime)
     } else if word == "Z4" {
-        Some(BrokenRule::View)
+        Some(BreachRule::ViewTime)
     } else if word == "Z5" {
-        Some(BrokenRule::Compaction)
+        Some(BreachRule::ReadTime)
     } else {
         None
     }

@@ -7,14 +7,14 @@ mod dates;
 mod finding;
 mod of_calls;
 mod pieces;
-mod places;
-mod rule_conflict;
+mod rule_conflicts;
 mod script_finding;
+mod script_lines;
 mod sentences;
 mod telling;
 mod told;
 
-pub use breach::{Breach, BrokenRule};
+pub use breach::{Breach, BreachRule};
 pub use finding::{Finding, finding_of};
 pub use of_calls::messages;
 pub use script_finding::ScriptFinding;

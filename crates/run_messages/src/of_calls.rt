@@ -1,20 +1,19 @@
 //! The messages on a call, from the failures that its report tells of, the text of its script and its journal.
 
-ghost use Rattle.std.specs.Prelude.{◌≡◌, IfOk};
-ghost use Rattle.run_messages.specs.Calls.{AreCallMessages, AreLinesOf, tells_of_rules};
+ghost use Rattle.std.specs.Prelude.{◌≡◌, ◌++◌, IfOk, OnOk};
+ghost use Rattle.run_messages.specs.Calls.{AreCallMessages, rules_words, tells_of_rules};
 
 use crate::finding::Finding;
-use crate::places::task_lines;
-use crate::rule_conflict::put_conflict;
+use crate::rule_conflicts::put_conflict_of;
 use crate::script_finding::ScriptFinding;
+use crate::script_lines::task_lines;
 use crate::telling::put_messages;
 use crate::told::{Told, ToldList};
 use base::NoMemory;
-use script_core::{Script, ScriptRefusal};
 use std::alloc::Global;
 use world_core::Entry;
 
-/// The messages on failures that a report tells of.
+/// The messages on failures that a report tells of. Where there are none, there is no message.
 pub fn messages(
     alloc: Global,
     told: &ToldList,
@@ -28,12 +27,21 @@ pub fn messages(
     if told.is_empty() {
         return Ok(out);
     }
-    let lines = script_lines(alloc, script)?;
-    put_messages(&mut out, told, &lines, journal)?;
-    if tells_of_rules(told.members()) {
-        put_conflict(&mut out, script)?;
-    }
+    let lines = task_lines(alloc, script)?;
+    put_messages(&mut out, told.members(), &lines, journal)?;
+    put_rules(&mut out, alloc, told.members(), script)?;
     Ok(out)
+}
+
+/// Appends which rules disagree, where the first failure is that some do.
+fn put_rules(out: &mut Vec<u8>, alloc: Global, told: &[Told], script: &[u8]) -> Result<(), NoMemory>
+    ensures { OnOk result (out.new.items ≡ out.old.items ++ rules_words told.now script.now) }
+{
+    if tells_of_rules(told) {
+        put_conflict_of(out, alloc, script)
+    } else {
+        Ok(())
+    }
 }
 
 /// Whether the first failure is that the rules of the script disagree.
@@ -43,20 +51,5 @@ fn tells_of_rules(told: &[Told]) -> bool
     match told {
         [first, ..] => first.finding == Finding::Script(ScriptFinding::BadRules),
         [] => false,
-    }
-}
-
-/// The lines of a script's tasks. Of a text that is no script there are none.
-fn script_lines(alloc: Global, text: &[u8]) -> Result<Vec<u32>, NoMemory>
-    ensures { IfOk result (λ lines. AreLinesOf text.now lines.items) }
-{
-    match Script::read(alloc, text) {
-        Ok(script) => {
-            let lines = task_lines(alloc, &script);
-            drop(script);
-            lines
-        }
-        Err(ScriptRefusal::NoMemory) => Err(NoMemory),
-        Err(_) => Ok(Vec::new(alloc)),
     }
 }

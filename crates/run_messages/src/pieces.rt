@@ -5,7 +5,7 @@ ghost use Rattle.base.specs.Decimal.{decimal_text};
 ghost use Rattle.block_keys.specs.Keys.{IsLawfulKey, is_lawful_key};
 ghost use Rattle.run_messages.specs.Messages.{entry_words, excess_words, key_words, line_words, message_with, op_words, span_words};
 
-use crate::breach::{Breach, BrokenRule};
+use crate::breach::{Breach, BreachRule};
 use crate::finding::Finding;
 use crate::sentences::sentence;
 use crate::told::Told;
@@ -18,7 +18,7 @@ use world_core::{Entry, Op};
 pub(crate) fn put_message(
     out: &mut Vec<u8>,
     told: &Told,
-    line: Option<u32>,
+    line: Option<u64>,
     entry: Option<&Entry>,
     date: &str,
 ) -> Result<(), NoMemory>
@@ -43,13 +43,13 @@ pub(crate) fn put_text(out: &mut Vec<u8>, text: &str) -> Result<(), NoMemory>
 
 /// Appends the number of the task's line.
 #[tactic(auto, unfolding(crate::specs::Messages::line_words))]
-fn put_line(out: &mut Vec<u8>, line: Option<u32>) -> Result<(), NoMemory>
+fn put_line(out: &mut Vec<u8>, line: Option<u64>) -> Result<(), NoMemory>
     ensures { OnOk result (out.new.items ≡ out.old.items ++ line_words line) }
 {
     match line {
         Some(line) => {
             put_text(out, "line ")?;
-            put_unsigned(out, u64::from(line))?;
+            put_unsigned(out, line)?;
             put_text(out, ": ")
         }
         None => Ok(()),
@@ -131,7 +131,7 @@ fn put_excess(out: &mut Vec<u8>, finding: Finding) -> Result<(), NoMemory>
     ensures { OnOk result (out.new.items ≡ out.old.items ++ excess_words finding) }
 {
     match finding {
-        Finding::Breach(breach) if breach.rule != BrokenRule::Honesty => {
+        Finding::Breach(breach) if breach.rule != BreachRule::Bucket => {
             put_text(out, " That is passed by ")?;
             put_span(out, breach.found.saturating_sub(breach.allowed))?;
             put_text(out, ".")

@@ -3,7 +3,7 @@
 ghost use Rattle.std.specs.Prelude.{◌≡◌};
 ghost use Rattle.run_messages.specs.Sentences.{breach_words, refused_words, sentence_of};
 
-use crate::breach::BrokenRule;
+use crate::breach::BreachRule;
 use crate::finding::Finding;
 use crate::script_finding::script_sentence;
 
@@ -27,26 +27,26 @@ pub(crate) fn sentence(finding: Finding) -> &'static str
 }
 
 /// What a breach of a rule means. By how much it was broken is told behind it.
-fn breach_sentence(rule: BrokenRule) -> &'static str
+fn breach_sentence(rule: BreachRule) -> &'static str
     ensures { result.now ≡ breach_words rule }
 {
     match rule {
-        BrokenRule::Honesty => {
+        BreachRule::Bucket => {
             "The reply shows something else than what stands there: the bucket lied, or somebody else wrote in it."
         }
-        BrokenRule::Upload => {
+        BreachRule::UploadTime => {
             "Its block may be put from the time of its ULID on, and not later than the upload limit after it."
         }
-        BrokenRule::Mark => {
+        BreachRule::MarkTime => {
             "A mark may not land later than the ignore delay after the second in it."
         }
-        BrokenRule::Sync => {
+        BreachRule::SyncTime => {
             "A sync may not read for longer than the ignore delay, less a second."
         }
-        BrokenRule::View => {
+        BreachRule::ViewTime => {
             "Its gateway had not synced for too long: the view by which it read was too old."
         }
-        BrokenRule::Compaction => {
+        BreachRule::ReadTime => {
             "A compaction may not read for longer than half of the delete delay."
         }
     }

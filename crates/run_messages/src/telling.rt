@@ -6,7 +6,7 @@ ghost use Rattle.run_messages.specs.Messages.{AreMessages, IsDateAt, IsDated, en
 use crate::dates::date_of;
 use crate::finding::Finding;
 use crate::pieces::put_message;
-use crate::told::{Told, ToldList};
+use crate::told::Told;
 use base::{NoMemory, put_unsigned};
 use label_sets::Text;
 use std::alloc::Global;
@@ -18,18 +18,17 @@ const MOST: usize = 20;
 /// Appends the messages of failures, with the numbers of the lines of the script's tasks, where they are known.
 pub(crate) fn put_messages(
     out: &mut Vec<u8>,
-    told: &ToldList,
-    lines: &[u32],
+    told: &[Told],
+    lines: &[u64],
     journal: &[Entry],
 ) -> Result<(), NoMemory>
     ensures { OnOk result ((text : List ℕ)
         × AreMessages lines.now journal.now (take most_told told.now) text
         × (out.new.items ≡ out.old.items ++ text ++ more_words told.now)) }
 {
-    let members = told.members();
-    let first = &members[..MOST.min(members.len())];
+    let first = &told[..MOST.min(told.len())];
     put_each(out, first, lines, journal)?;
-    put_more(out, members)
+    put_more(out, told)
 }
 
 /// Appends how many failures are not told.
@@ -49,7 +48,7 @@ fn put_more(out: &mut Vec<u8>, told: &[Told]) -> Result<(), NoMemory>
 fn put_each(
     out: &mut Vec<u8>,
     told: &[Told],
-    lines: &[u32],
+    lines: &[u64],
     journal: &[Entry],
 ) -> Result<(), NoMemory>
     ensures { OnOk result ((text : List ℕ)
@@ -64,7 +63,7 @@ fn put_each(
 }
 
 /// Appends the message of one failure.
-fn put_one(out: &mut Vec<u8>, told: &Told, lines: &[u32], journal: &[Entry]) -> Result<(), NoMemory>
+fn put_one(out: &mut Vec<u8>, told: &Told, lines: &[u64], journal: &[Entry]) -> Result<(), NoMemory>
     ensures { OnOk result ((date : List ℕ) × IsDated journal.now told.now date
         × (out.new.items ≡ out.old.items ++ message_of lines.now journal.now told.now date)) }
 {
@@ -96,7 +95,7 @@ fn entry_of(journal: &[Entry], finding: Finding) -> Option<&Entry>
 }
 
 /// The line of the task whose place this is, counted from 1.
-fn line_of(lines: &[u32], task: u64) -> Option<u32>
+fn line_of(lines: &[u64], task: u64) -> Option<u64>
     ensures { result ≡ line_of lines.now task }
 {
     if task == 0 {

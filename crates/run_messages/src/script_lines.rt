@@ -1,0 +1,52 @@
+//! Where the tasks of a script stand.
+
+ghost use Rattle.std.specs.Prelude.{◌≡◌, IfOk};
+ghost use Rattle.script_fields.specs.Fields.{lines_of};
+ghost use Rattle.run_messages.specs.ScriptLines.{is_task_kind, kind_of, task_lines};
+
+use crate::told::spoken;
+use base::NoMemory;
+use script_fields::{LineKind, cut_line, next_field};
+use std::alloc::Global;
+
+/// The numbers of the lines that have tasks, in their order.
+pub(crate) fn task_lines(alloc: Global, script: &[u8]) -> Result<Vec<u64>, NoMemory>
+    ensures { IfOk result (λ lines. lines.items ≡ task_lines 1 (lines_of script.now)) }
+{
+    let mut lines = Vec::new(alloc);
+    let mut number = 0u64;
+    let mut left = script;
+    while !left.is_empty() {
+        let (line, rest) = cut_line(left);
+        number += 1;
+        if is_task_kind(kind_of(line)) {
+            lines.push(number)?;
+        }
+        left = rest;
+    }
+    Ok(lines)
+}
+
+/// The kind of a line, by its first word.
+#[tactic(auto, unfolding(crate::specs::ScriptLines::kind_of))]
+pub(crate) fn kind_of(line: &[u8]) -> Option<LineKind>
+    ensures { result ≡ kind_of line.now }
+{
+    let (word, _) = next_field(spoken(line));
+    LineKind::of_word(word)
+}
+
+fn is_task_kind(kind: Option<LineKind>) -> bool
+    ensures { result ≡ is_task_kind kind }
+{
+    match kind {
+        Some(
+            LineKind::Upload
+            | LineKind::Sync
+            | LineKind::Compact
+            | LineKind::Clean
+            | LineKind::Query,
+        ) => true,
+        _ => false,
+    }
+}
