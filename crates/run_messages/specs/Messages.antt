@@ -24,12 +24,8 @@ abbrev pub entry_number : Finding → ℕ
 entry_number (findings.Fault entry) = entry
 entry_number (findings.Missing entry) = entry
 entry_number (findings.Damaged entry) = entry
-entry_number (findings.Refused number) = 0
-entry_number findings.NoView = 0
-entry_number findings.TooMany = 0
-entry_number findings.TooLarge = 0
-entry_number (findings.Script refusal) = 0
 entry_number (findings.Breach breach) = breach.entry
+entry_number other = 0
 
 abbrev pub entry_of : List Entry → Finding → Option Entry
 entry_of journal finding = entry_at journal (entry_number finding)
@@ -65,23 +61,12 @@ span_words ms = decimal_text ms ++ codes " ms (" ++ decimal_text (ms / 3_600_000
 
 abbrev pub passed_by : BreachRule → ℕ → List ℕ
 passed_by rules.Bucket ms = []
-passed_by rules.UploadTime ms = codes " That is passed by " ++ span_words ms ++ codes "."
-passed_by rules.MarkTime ms = codes " That is passed by " ++ span_words ms ++ codes "."
-passed_by rules.SyncTime ms = codes " That is passed by " ++ span_words ms ++ codes "."
-passed_by rules.ViewTime ms = codes " That is passed by " ++ span_words ms ++ codes "."
-passed_by rules.ReadTime ms = codes " That is passed by " ++ span_words ms ++ codes "."
+passed_by of_time ms = codes " That is passed by " ++ span_words ms ++ codes "."
 
 -- by how much a rule of time was broken
 unfoldable pub excess_words : Finding → List ℕ
-excess_words (findings.Fault entry) = []
-excess_words (findings.Missing entry) = []
-excess_words (findings.Damaged entry) = []
-excess_words (findings.Refused number) = []
-excess_words findings.NoView = []
-excess_words findings.TooMany = []
-excess_words findings.TooLarge = []
-excess_words (findings.Script refusal) = []
 excess_words (findings.Breach breach) = passed_by breach.rule (breach.found - breach.allowed)
+excess_words other = []
 
 -- the line of the report, with the line of its task before it, and behind it what was done, when, and what that means
 unfoldable pub message_with : Option ℕ → Option Entry → Told → List ℕ → List ℕ

@@ -4,12 +4,13 @@ use Rattle.base.specs.Decimal.{decimal_text}
 use Rattle.base.specs.Lines.{newline}
 use Rattle.moment_core.specs.Limits.{one_second}
 use Rattle.moment_core.specs.declared.rules.Rules.{Rules}
-use Rattle.script_fields.specs.Fields.{next_field, rule_name}
+use Rattle.script_fields.specs.Fields.{next_field, rule_kind}
 use Rattle.script_fields.specs.Values.{set_rule}
 use Rattle.script_fields.specs.declared.cause.LineCause.{LineCause}
 use Rattle.script_fields.specs.declared.line_kind.LineKind.{LineKind}
 use Rattle.script_fields.specs.declared.line_kind.LineKind.TheVariants as kinds
-use Rattle.script_fields.specs.declared.rule_name.RuleName.{RuleName}
+use Rattle.script_fields.specs.declared.rule_kind.RuleKind.{RuleKind}
+use Rattle.script_fields.specs.declared.rule_kind.RuleKind.TheVariants.{Valued}
 use Rattle.run_messages.specs.ScriptLines.{kind_of}
 use Rattle.run_messages.specs.Told.{spoken}
 
@@ -18,15 +19,16 @@ abbrev pub set_as_read : Rules → Result Rules LineCause → Rules
 set_as_read rules (Ok set) = set
 set_as_read rules (Err cause) = rules
 
-abbrev pub set_named : Rules → Option RuleName → List ℕ → Rules
-set_named rules None value = rules
-set_named rules (Some name) value = set_as_read rules (set_rule name value rules)
+-- rules that have no one value do not count
+abbrev pub set_named : Rules → Option RuleKind → List ℕ → Rules
+set_named rules (Some (Valued name)) value = set_as_read rules (set_rule name value rules)
+set_named rules other value = rules
 
 -- the rules with what a rule line says behind its word
 unfoldable pub with_rule : Rules → Option (List ℕ) → Rules
 with_rule rules left =
     let name = next_field left in
-    set_named rules (rule_name name.0) (next_field name.1).0
+    set_named rules (rule_kind name.0) (next_field name.1).0
 
 abbrev pub is_rule : Option LineKind → Bool
 is_rule (Some kinds.Rule) = true

@@ -3,7 +3,7 @@
 ghost use Rattle.std.specs.Prelude.{◌≡◌, ◌≤◌, ◌++◌, IsTrue, OnOk, option_copied};
 ghost use Rattle.base.specs.Decimal.{decimal_text};
 ghost use Rattle.block_keys.specs.Keys.{IsLawfulKey, is_lawful_key};
-ghost use Rattle.run_messages.specs.Messages.{entry_words, excess_words, key_words, line_words, message_with, op_words, span_words};
+ghost use Rattle.run_messages.specs.Messages.{entry_words, excess_words, key_words, line_words, message_with, op_words, passed_by, span_words};
 
 use crate::breach::{Breach, BreachRule};
 use crate::finding::Finding;
@@ -131,12 +131,32 @@ fn put_excess(out: &mut Vec<u8>, finding: Finding) -> Result<(), NoMemory>
     ensures { OnOk result (out.new.items ≡ out.old.items ++ excess_words finding) }
 {
     match finding {
-        Finding::Breach(breach) if breach.rule != BreachRule::Bucket => {
-            put_text(out, " That is passed by ")?;
-            put_span(out, breach.found.saturating_sub(breach.allowed))?;
-            put_text(out, ".")
+        Finding::Breach(breach) => {
+            put_passed(
+                out,
+                breach.rule,
+                breach.found.saturating_sub(breach.allowed),
+            )
         }
         _ => Ok(()),
+    }
+}
+
+/// Appends by how much this rule was broken, if it is one of time.
+fn put_passed(out: &mut Vec<u8>, rule: BreachRule, ms: u64) -> Result<(), NoMemory>
+    ensures { OnOk result (out.new.items ≡ out.old.items ++ passed_by rule ms) }
+{
+    match rule {
+        BreachRule::Bucket => Ok(()),
+        BreachRule::UploadTime
+        | BreachRule::MarkTime
+        | BreachRule::SyncTime
+        | BreachRule::ViewTime
+        | BreachRule::ReadTime => {
+            put_text(out, " That is passed by ")?;
+            put_span(out, ms)?;
+            put_text(out, ".")
+        }
     }
 }
 

@@ -11,7 +11,7 @@ use crate::script_lines::kind_of;
 use crate::told::spoken;
 use base::{NoMemory, put_unsigned};
 use moment_core::{Rules, SECOND};
-use script_fields::{LineKind, RuleName, cut_line, next_field};
+use script_fields::{LineKind, RuleKind, cut_line, next_field};
 use std::alloc::Global;
 
 /// Appends a line on two rules of a script that disagree, as its lines set them before its first phase.
@@ -61,7 +61,7 @@ fn read_rule(rules: &mut Rules, fields: Option<&str>)
 {
     let (name, left) = next_field(fields);
     let (value, _) = next_field(left);
-    if let Some(name) = RuleName::of_word(name) {
+    if let Some(RuleKind::Valued(name)) = RuleKind::of_word(name) {
         let _ = name.set(rules, value);
     }
 }
