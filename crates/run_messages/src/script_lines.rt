@@ -1,8 +1,8 @@
 //! Where the tasks of a script stand.
 
-ghost use Rattle.std.specs.Prelude.{◌≡◌, IfOk};
+ghost use Rattle.std.specs.Prelude.{◌≡◌, ◌++◌, IfOk, OnOk};
 ghost use Rattle.script_fields.specs.Fields.{lines_of};
-ghost use Rattle.run_messages.specs.ScriptLines.{is_task_kind, kind_of, task_lines};
+ghost use Rattle.run_messages.specs.ScriptLines.{is_task_kind, kind_of, number_if, task_lines};
 
 use crate::told::spoken;
 use base::NoMemory;
@@ -19,12 +19,21 @@ pub(crate) fn task_lines(alloc: Global, script: &[u8]) -> Result<Vec<u64>, NoMem
     while !left.is_empty() {
         let (line, rest) = cut_line(left);
         number += 1;
-        if is_task_kind(kind_of(line)) {
-            lines.push(number)?;
-        }
+        add_line(&mut lines, number, line)?;
         left = rest;
     }
     Ok(lines)
+}
+
+/// Adds the number of a line that has a task.
+fn add_line(lines: &mut Vec<u64>, number: u64, line: &[u8]) -> Result<(), NoMemory>
+    ensures { OnOk result
+        (lines.new.items ≡ lines.old.items ++ number_if (is_task_kind (kind_of line.now)) number) }
+{
+    if is_task_kind(kind_of(line)) {
+        lines.push(number)?;
+    }
+    Ok(())
 }
 
 /// The kind of a line, by its first word.
