@@ -1,3 +1,4 @@
+pub mod Conflicts
 pub mod LineWalks
 pub mod RuleLines
 pub mod TaskLines

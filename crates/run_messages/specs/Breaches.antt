@@ -5,9 +5,9 @@ use Rattle.std.specs.Result.{result_ok}
 use Rattle.std.specs.Str.{byte as code, bytes_eq}
 use Rattle.base.specs.Decimal.{unsigned_of}
 use Rattle.script_fields.specs.Fields.{next_field}
-use Rattle.run_messages.specs.declared.breach.Breach.{Breach}
-use Rattle.run_messages.specs.declared.breach.BreachRule.{BreachRule}
-use Rattle.run_messages.specs.declared.breach.BreachRule.TheVariants.{Bucket, UploadTime, MarkTime, SyncTime, ViewTime, ReadTime}
+use Rattle.breach_finding.specs.declared.found.Breach.{Breach}
+use Rattle.breach_finding.specs.declared.found.BreachRule.{BreachRule}
+use Rattle.breach_finding.specs.declared.found.BreachRule.TheVariants.{Bucket, UploadTime, MarkTime, SyncTime, ViewTime, ReadTime}
 
 -- the rule that a word of the line names
 unfoldable pub rule_of : List ℕ → Option BreachRule

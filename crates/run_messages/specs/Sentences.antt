@@ -1,8 +1,8 @@
 -- The sentences of causes.
 use Rattle.std.specs.Prelude.{ℕ, List, [], ◌==◌, if◌then◌else◌, codes}
 use Rattle.run_messages.specs.ScriptFindings.{script_words}
-use Rattle.run_messages.specs.declared.breach.BreachRule.{BreachRule}
-use Rattle.run_messages.specs.declared.breach.BreachRule.TheVariants.{Bucket, UploadTime, MarkTime, SyncTime, ViewTime, ReadTime}
+use Rattle.breach_finding.specs.declared.found.BreachRule.{BreachRule}
+use Rattle.breach_finding.specs.declared.found.BreachRule.TheVariants.{Bucket, UploadTime, MarkTime, SyncTime, ViewTime, ReadTime}
 use Rattle.run_messages.specs.declared.finding.Finding.{Finding}
 use Rattle.run_messages.specs.declared.finding.Finding.TheVariants.{Fault, Missing, Damaged, Refused, NoView, TooMany, TooLarge, Script, Breach}
 

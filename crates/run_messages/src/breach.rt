@@ -6,27 +6,8 @@ ghost use Rattle.base.specs.Decimal.{unsigned_of};
 ghost use Rattle.run_messages.specs.Breaches.{before_colon, breach_of, breach_with, rule_of};
 
 use base::read_unsigned;
+use breach_finding::{Breach, BreachRule};
 use script_fields::next_field;
-
-/// What a breach broke.
-#[derive(Clone, Copy, Debug, PartialEq, Eq)]
-pub enum BreachRule {
-    Bucket,
-    UploadTime,
-    MarkTime,
-    SyncTime,
-    ViewTime,
-    ReadTime,
-}
-
-/// A breach: its rule, its entry, and the two numbers behind it.
-#[derive(Clone, Copy, Debug, PartialEq, Eq)]
-pub struct Breach {
-    pub rule: BreachRule,
-    pub entry: u64,
-    pub found: u64,
-    pub allowed: u64,
-}
 
 /// The breach that a line tells behind its first word, as in `breach Z4 entry 63: 266400101 over 174600001`.
 #[tactic(auto, unfolding(crate::specs::Breaches::breach_of))]

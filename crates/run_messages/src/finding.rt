@@ -5,9 +5,10 @@ ghost use Rattle.run_messages.specs.Breaches.{breach_of};
 ghost use Rattle.run_messages.specs.ScriptFindings.{script_finding};
 ghost use Rattle.run_messages.specs.Findings.{behind_name, finding_of, finding_of_words, is_task, numbered_finding};
 
-use crate::breach::{Breach, breach_of};
+use crate::breach::breach_of;
 use crate::script_finding::{ScriptFinding, script_finding};
 use base::read_unsigned;
+use breach_finding::Breach;
 use script_fields::next_field;
 
 /// A failure as a line of a report tells it. A number is that of an entry of the journal, or of the cause of a refusal.

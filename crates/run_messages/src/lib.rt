@@ -14,7 +14,7 @@ mod sentences;
 mod telling;
 mod told;
 
-pub use breach::{Breach, BreachRule};
+pub use breach_finding::{Breach, BreachRule};
 pub use finding::{Finding, finding_of};
 pub use of_calls::messages;
 pub use script_finding::ScriptFinding;

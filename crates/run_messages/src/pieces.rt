@@ -5,12 +5,12 @@ ghost use Rattle.base.specs.Decimal.{decimal_text};
 ghost use Rattle.block_keys.specs.Keys.{IsLawfulKey, is_lawful_key};
 ghost use Rattle.run_messages.specs.Messages.{entry_words, excess_words, key_words, line_words, message_with, op_words, passed_by, span_words};
 
-use crate::breach::{Breach, BreachRule};
 use crate::finding::Finding;
 use crate::sentences::sentence;
 use crate::told::Told;
 use base::{NoMemory, put_unsigned};
 use block_keys::{Key, SEGMENT_LIMIT};
+use breach_finding::BreachRule;
 use world_core::{Entry, Op};
 
 /// Appends the message of a failure.

@@ -1,7 +1,8 @@
 //! Which two rules of a script disagree, where it is refused for that.
 
-ghost use Rattle.std.specs.Prelude.{◌≡◌, ◌+◌, ◌++◌, OnOk, nat_lt, option_copied};
+ghost use Rattle.std.specs.Prelude.{◌≡◌, ◌+◌, ◌++◌, ◌↔◌, [], IsTrue, OnOk, nat_lt, option_copied};
 ghost use Rattle.script_fields.specs.Fields.{lines_of};
+ghost use Rattle.script_fields.specs.Values.{agree};
 ghost use Rattle.moment_core.specs.Limits.{one_second};
 ghost use Rattle.moment_core.specs.StandardRules.{standard_rules};
 ghost use Rattle.run_messages.specs.RuleConflicts.{conflict_words, is_phase, is_rule, pair_words, rules_by, with_line, with_rule};
@@ -85,9 +86,10 @@ fn is_phase(kind: Option<LineKind>) -> bool
 }
 
 /// Appends a line on two rules that disagree, or nothing where all agree.
-#[tactic(auto, unfolding(crate::specs::RuleConflicts::conflict_words))]
+#[tactic(auto, using(crate::proofs::Conflicts::named_where), unfolding(crate::specs::RuleConflicts::conflict_words))]
 fn put_conflict(out: &mut Vec<u8>, rules: &Rules) -> Result<(), NoMemory>
-    ensures { OnOk result (out.new.items ≡ out.old.items ++ conflict_words rules.now) }
+    ensures text { OnOk result (out.new.items ≡ out.old.items ++ conflict_words rules.now) }
+    ensures silent { (conflict_words rules.now ≡ []) ↔ IsTrue (agree rules.now) }
 {
     let upload = rules.upload.ms;
     let partial = rules.partial.ms;

@@ -3,9 +3,9 @@
 ghost use Rattle.std.specs.Prelude.{◌≡◌};
 ghost use Rattle.run_messages.specs.Sentences.{breach_words, refused_words, sentence_of};
 
-use crate::breach::BreachRule;
 use crate::finding::Finding;
 use crate::script_finding::script_sentence;
+use breach_finding::BreachRule;
 
 /// What a failure means.
 pub(crate) fn sentence(finding: Finding) -> &'static str

@@ -36,7 +36,7 @@ fn main(rt: HostRuntime) -> ExitCode {
     let alloc = rt.alloc();
     let host: Result<_, _> = rt.clone();
     let number = match (words_of(alloc, &rt), host) {
-        (Ok(words), Ok(host)) => serve(&rt, alloc, &words, HostSite::new(host)),
+        (Ok(words), Ok(host)) => serve(&rt, &rt, &words, HostSite::new(host)),
         _ => {
             let number = Status::NoMemory.number();
             // A failure to say it changes nothing.
@@ -48,11 +48,17 @@ fn main(rt: HostRuntime) -> ExitCode {
 }
 
 /// Does what the words ask for, says on standard error what is to be said of it, and tells its status.
-fn serve(rt: &HostRuntime, alloc: Global, words: &[String], site: HostSite<HostRuntime>) -> u8 {
+fn serve<T: Threads + Wait + Sync>(
+    threads: &T,
+    rt: &HostRuntime,
+    words: &[String],
+    site: HostSite<HostRuntime>,
+) -> u8 {
+    let alloc = rt.alloc();
     let mut site = site;
     let mut script = KeptSource::new(alloc, ReaderSource::new(rt.reader()));
     let mut out = ReportSink::new(alloc, io::writer(rt));
-    let ended = run(rt, alloc, words, &mut site, &mut script, &mut out);
+    let ended = run(threads, alloc, words, &mut site, &mut script, &mut out);
     let troubles = Troubles {
         bucket: site
             .bucket_trouble()
