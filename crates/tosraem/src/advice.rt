@@ -32,19 +32,22 @@ pub(crate) fn tell<W: Write>(
         (messages.now ++ said_of status troubles)) }
 {
     match Status::from_number(number) {
-        Some(status) => {
-            errors.write_all(messages)?;
-            say(status, troubles, errors)
-        }
+        Some(status) => say(status, troubles, messages, errors),
         None => Ok(()),
     }
 }
 
 #[tactic(auto, using(crate::proofs::Saying::said_in_turn))]
-fn say<W: Write>(status: Status, troubles: Troubles, errors: &mut W) -> io::Result<()>
-    ensures { OnOk result
-        (Appends (W.contents errors.old) (W.contents errors.new) (said_of status troubles)) }
+fn say<W: Write>(
+    status: Status,
+    troubles: Troubles,
+    messages: &[u8],
+    errors: &mut W,
+) -> io::Result<()>
+    ensures { OnOk result (Appends (W.contents errors.old) (W.contents errors.new)
+        (messages.now ++ said_of status troubles)) }
 {
+    errors.write_all(messages)?;
     errors.write_all(advice(status).as_bytes())?;
     errors.write_all(bucket_line(troubles.bucket).as_bytes())?;
     errors.write_all(shelf_line(troubles.shelf).as_bytes())?;
