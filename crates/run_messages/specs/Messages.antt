@@ -68,10 +68,16 @@ unfoldable pub excess_words : Finding → List ℕ
 excess_words (findings.Breach breach) = passed_by breach.rule (breach.found - breach.allowed)
 excess_words other = []
 
--- the line of the report, with the line of its task before it, and behind it what was done, when, and what that means
+-- the line of the report, with the line of its task before it
+unfoldable pub front_words : Option ℕ → List ℕ → List ℕ
+front_words line told = line_words line ++ told ++ codes ". "
+
+unfoldable pub meaning_words : Finding → List ℕ
+meaning_words finding = sentence_of finding ++ excess_words finding ++ newline
+
+-- the line of the report, what was done and when, and what that means
 unfoldable pub message_with : Option ℕ → Option Entry → Told → List ℕ → List ℕ
-message_with line entry told date =
-    line_words line ++ told.line ++ codes ". " ++ entry_words entry date ++ sentence_of told.finding ++ excess_words told.finding ++ newline
+message_with line entry told date = front_words line told.line ++ entry_words entry date ++ meaning_words told.finding
 
 abbrev pub message_of : List ℕ → List Entry → Told → List ℕ → List ℕ
 message_of lines journal told date = message_with (line_of lines told.task) (entry_of journal told.finding) told date
@@ -95,9 +101,9 @@ AreMessages lines journal (told ∷ more) text =
 abbrev pub most_told : ℕ
 most_told = 20
 
+unfoldable pub count_words : ℕ → List ℕ
+count_words count = codes "Failures that are not told here: " ++ decimal_text count ++ codes "." ++ newline
+
 -- how many are not
 unfoldable pub more_words : List Told → List ℕ
-more_words told =
-    if nat_lt most_told (length told)
-    then codes "Failures that are not told here: " ++ decimal_text (length told - most_told) ++ codes "." ++ newline
-    else []
+more_words told = if nat_lt most_told (length told) then count_words (length told - most_told) else []

@@ -1,6 +1,7 @@
 -- The lines of a report that tell of failures.
-use Rattle.std.specs.Prelude.{ℕ, ◌+◌, ◌-◌, ◌^◌, min, List, [], ◌∷◌, ◌++◌, Bool, Option, None, Some, take, if◌then◌else◌, codes}
+use Rattle.std.specs.Prelude.{ℕ, ◌+◌, ◌-◌, ◌^◌, min, List, [], ◌∷◌, ◌++◌, Bool, ◌||◌, Option, None, Some, take, if◌then◌else◌, codes}
 use Rattle.std.specs.Str.{bytes_eq, is_utf8}
+use Rattle.script_fields.specs.Fields.{is_silent}
 use Rattle.run_messages.specs.Findings.{finding_of, is_task}
 use Rattle.run_messages.specs.declared.finding.Finding.{Finding}
 use Rattle.run_messages.specs.declared.told.Told.{Told}
@@ -9,9 +10,12 @@ use Rattle.run_messages.specs.declared.told.Told.{Told}
 abbrev pub is_of_series : List ℕ → Bool
 is_of_series line = bytes_eq (codes "series ") (take 7 line)
 
--- a line that may tell of a failure
+abbrev pub text_of : List ℕ → Option (List ℕ)
+text_of line = if is_utf8 line then Some line else None
+
+-- A line that may tell of a failure, or of a task. One that says nothing does not, and neither does one of a series.
 unfoldable pub spoken : List ℕ → Option (List ℕ)
-spoken line = if is_of_series line then None else (if is_utf8 line then Some line else None)
+spoken line = if is_silent line || is_of_series line then None else text_of line
 
 -- How many tasks a report has told of with a line. At the greatest number, 2^64 - 1, it stays.
 abbrev pub tasks_with : ℕ → Option (List ℕ) → ℕ

@@ -1,14 +1,14 @@
 //! Moments as dates.
 
 ghost use Rattle.std.specs.Prelude.{◌≡◌, ◌⊎◌, IfOk, IfSome, None};
-ghost use Rattle.jiff.specs.Words.{IsTimestampNanos};
+ghost use Rattle.jiff.specs.Words.{IsTimestampNanos, civil_nanos};
 ghost use Rattle.base.specs.Decimal.{decimal_text};
-ghost use Rattle.run_messages.specs.Dates.{IsDate, IsDateOf, nanoseconds};
+ghost use Rattle.run_messages.specs.Dates.{IsDate, IsDateOf, date_text, nanoseconds};
 
-use base::NoMemory;
+use base::{NoMemory, put_unsigned};
 use jiff::Timestamp;
+use jiff::civil::DateTime;
 use jiff::tz::Offset;
-use label_sets::Text;
 use moment_core::Moment;
 use std::alloc::Global;
 
@@ -16,8 +16,8 @@ use std::alloc::Global;
 const MILLISECOND: i128 = 1_000_000;
 
 /// The date of a moment in universal time, or its milliseconds where the calendar has no date so late.
-pub(crate) fn date_of(alloc: Global, moment: Moment) -> Result<Text, NoMemory>
-    ensures { IfOk result (λ text. IsDateOf text moment.ms) }
+pub(crate) fn date_of(alloc: Global, moment: Moment) -> Result<Vec<u8>, NoMemory>
+    ensures { IfOk result (λ text. IsDateOf text.items moment.ms) }
 {
     match timestamp_of(moment.ms) {
         Some(timestamp) => date_text(alloc, timestamp),
@@ -33,15 +33,32 @@ fn timestamp_of(ms: u64) -> Option<Timestamp>
     Timestamp::from_nanosecond(i128::from(ms) * MILLISECOND).ok()
 }
 
-fn date_text(alloc: Global, timestamp: Timestamp) -> Result<Text, NoMemory>
-    ensures { IfOk result (λ text. IsDate text timestamp.nanosecond) }
+fn date_text(alloc: Global, timestamp: Timestamp) -> Result<Vec<u8>, NoMemory>
+    ensures { IfOk result (λ text. IsDate text.items timestamp.nanosecond) }
 {
-    let date = Offset::UTC.to_datetime(timestamp);
-    Ok(Text::from_string(format!(in alloc; "{date}Z")?))
+    shown(alloc, utc_date(timestamp))
 }
 
-fn milliseconds_text(alloc: Global, ms: u64) -> Result<Text, NoMemory>
-    ensures { IfOk result (λ text. text ≡ decimal_text ms) }
+fn utc_date(timestamp: Timestamp) -> DateTime
+    ensures { civil_nanos result ≡ timestamp.nanosecond }
 {
-    Ok(Text::from_string(format!(in alloc; "{ms}")?))
+    Offset::UTC.to_datetime(timestamp)
+}
+
+/// The text of a date in universal time.
+fn shown(alloc: Global, date: DateTime) -> Result<Vec<u8>, NoMemory>
+    ensures { IfOk result (λ text. text.items ≡ date_text date) }
+{
+    let text = format!(in alloc; "{date}Z")?;
+    let mut out = Vec::new(alloc);
+    out.extend_from_slice(text.as_bytes())?;
+    Ok(out)
+}
+
+fn milliseconds_text(alloc: Global, ms: u64) -> Result<Vec<u8>, NoMemory>
+    ensures { IfOk result (λ text. text.items ≡ decimal_text ms) }
+{
+    let mut out = Vec::new(alloc);
+    put_unsigned(&mut out, ms)?;
+    Ok(out)
 }

@@ -13,7 +13,7 @@ use base::NoMemory;
 use std::alloc::Global;
 use world_core::Entry;
 
-/// The messages on failures that a report tells of. Where there are none, there is no message.
+/// The messages on failures that a report tells of. It goes over the whole script, so ask for it where there are failures.
 pub fn messages(
     alloc: Global,
     told: &ToldList,
@@ -24,9 +24,6 @@ pub fn messages(
         (λ text. AreCallMessages told.now script.now journal.now text.items) }
 {
     let mut out = Vec::new(alloc);
-    if told.is_empty() {
-        return Ok(out);
-    }
     let lines = task_lines(alloc, script)?;
     put_messages(&mut out, told.members(), &lines, journal)?;
     put_rules(&mut out, alloc, told.members(), script)?;

@@ -1,9 +1,10 @@
 //! The pieces of a message.
 
-ghost use Rattle.std.specs.Prelude.{◌≡◌, ◌≤◌, ◌++◌, IsTrue, OnOk, option_copied};
+ghost use Rattle.std.specs.Prelude.{◌≡◌, ◌≤◌, ◌++◌, IsTrue, OnOk, codes, option_copied};
 ghost use Rattle.base.specs.Decimal.{decimal_text};
+ghost use Rattle.ulid_core.specs.UlidText.{text_of};
 ghost use Rattle.block_keys.specs.Keys.{IsLawfulKey, is_lawful_key};
-ghost use Rattle.run_messages.specs.Messages.{entry_words, excess_words, key_words, line_words, message_with, op_words, passed_by, span_words};
+ghost use Rattle.run_messages.specs.Messages.{entry_words, excess_words, front_words, key_words, line_words, meaning_words, message_with, op_words, passed_by, span_words};
 
 use crate::finding::Finding;
 use crate::sentences::sentence;
@@ -11,6 +12,7 @@ use crate::told::Told;
 use base::{NoMemory, put_unsigned};
 use block_keys::{Key, SEGMENT_LIMIT};
 use breach_finding::BreachRule;
+use ulid_core::Ulid;
 use world_core::{Entry, Op};
 
 /// Appends the message of a failure.
@@ -20,17 +22,33 @@ pub(crate) fn put_message(
     told: &Told,
     line: Option<u64>,
     entry: Option<&Entry>,
-    date: &str,
+    date: &[u8],
 ) -> Result<(), NoMemory>
     ensures { OnOk result (out.new.items
         ≡ out.old.items ++ message_with line (option_copied entry.entry) told.now date.now) }
 {
-    put_line(out, line)?;
-    put_text(out, told.line.as_str())?;
-    put_text(out, ". ")?;
+    put_front(out, line, told.line.as_str())?;
     put_entry(out, entry, date)?;
-    put_text(out, sentence(told.finding))?;
-    put_excess(out, told.finding)?;
+    put_meaning(out, told.finding)
+}
+
+/// Appends the line of the report, with that of its task before it.
+#[tactic(auto, unfolding(crate::specs::Messages::front_words))]
+fn put_front(out: &mut Vec<u8>, line: Option<u64>, told: &str) -> Result<(), NoMemory>
+    ensures { OnOk result (out.new.items ≡ out.old.items ++ front_words line told.now) }
+{
+    put_line(out, line)?;
+    put_text(out, told)?;
+    put_text(out, ". ")
+}
+
+/// Appends what a failure means, and by how much a rule was broken.
+#[tactic(auto, unfolding(crate::specs::Messages::meaning_words))]
+fn put_meaning(out: &mut Vec<u8>, finding: Finding) -> Result<(), NoMemory>
+    ensures { OnOk result (out.new.items ≡ out.old.items ++ meaning_words finding) }
+{
+    put_text(out, sentence(finding))?;
+    put_excess(out, finding)?;
     put_text(out, "\n")
 }
 
@@ -58,7 +76,7 @@ fn put_line(out: &mut Vec<u8>, line: Option<u64>) -> Result<(), NoMemory>
 
 /// Appends which operation an entry has, and when it was done.
 #[tactic(auto, unfolding(crate::specs::Messages::entry_words))]
-fn put_entry(out: &mut Vec<u8>, entry: Option<&Entry>, date: &str) -> Result<(), NoMemory>
+fn put_entry(out: &mut Vec<u8>, entry: Option<&Entry>, date: &[u8]) -> Result<(), NoMemory>
     ensures { OnOk result
         (out.new.items ≡ out.old.items ++ entry_words (option_copied entry.entry) date.now) }
 {
@@ -67,7 +85,7 @@ fn put_entry(out: &mut Vec<u8>, entry: Option<&Entry>, date: &str) -> Result<(),
             put_text(out, "Entry ")?;
             put_unsigned(out, entry.seq)?;
             put_text(out, ", at ")?;
-            put_text(out, date)?;
+            out.extend_from_slice(date)?;
             put_text(out, ": ")?;
             put_op(out, &entry.op)?;
             put_text(out, ". ")
@@ -88,11 +106,16 @@ fn put_op(out: &mut Vec<u8>, op: &Op) -> Result<(), NoMemory>
         Op::GetRange(key, _, _) => put_deed(out, "get a part of ", key),
         Op::Delete(key) => put_deed(out, "delete ", key),
         Op::RootPage(_, _) => put_text(out, "list the blocks"),
-        Op::BlockPage(ulid, _, _) => {
-            put_text(out, "list the objects of ")?;
-            ulid.put_text(out)
-        }
+        Op::BlockPage(ulid, _, _) => put_listing(out, ulid),
     }
+}
+
+fn put_listing(out: &mut Vec<u8>, ulid: &Ulid) -> Result<(), NoMemory>
+    ensures { OnOk result
+        (out.new.items ≡ out.old.items ++ codes "list the objects of " ++ text_of ulid.now) }
+{
+    put_text(out, "list the objects of ")?;
+    ulid.put_text(out)
 }
 
 fn put_deed(out: &mut Vec<u8>, deed: &str, key: &Key) -> Result<(), NoMemory>

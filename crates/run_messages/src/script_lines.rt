@@ -41,7 +41,8 @@ fn add_line(lines: &mut Vec<u64>, number: u64, line: &[u8]) -> Result<(), NoMemo
 pub(crate) fn kind_of(line: &[u8]) -> Option<LineKind>
     ensures { result ≡ kind_of line.now }
 {
-    let (word, _) = next_field(spoken(line));
+    let text = spoken(line)?;
+    let (word, _) = next_field(Some(text));
     LineKind::of_word(word)
 }
 

@@ -1,14 +1,13 @@
 //! The messages of a run: a line for each failure that its report tells of, at most twenty, and then how many more there are.
 
 ghost use Rattle.std.specs.Prelude.{◌≡◌, ◌++◌, ℕ, List, IfOk, OnOk, option_copied, take};
-ghost use Rattle.run_messages.specs.Messages.{AreMessages, IsDateAt, IsDated, entry_of, line_of, message_of, most_told, more_words};
+ghost use Rattle.run_messages.specs.Messages.{AreMessages, IsDateAt, IsDated, count_words, entry_of, line_of, message_of, most_told, more_words};
 
 use crate::dates::date_of;
 use crate::finding::Finding;
-use crate::pieces::put_message;
+use crate::pieces::{put_message, put_text};
 use crate::told::Told;
 use base::{NoMemory, put_unsigned};
-use label_sets::Text;
 use std::alloc::Global;
 use world_core::{Entry, Journal};
 
@@ -26,9 +25,15 @@ pub(crate) fn put_messages(
         × AreMessages lines.now journal.now (take most_told told.now) text
         × (out.new.items ≡ out.old.items ++ text ++ more_words told.now)) }
 {
-    let first = &told[..MOST.min(told.len())];
-    put_each(out, first, lines, journal)?;
+    put_each(out, first_of(told), lines, journal)?;
     put_more(out, told)
+}
+
+/// The failures that are told.
+fn first_of(told: &[Told]) -> &[Told]
+    ensures { result.now ≡ take most_told told.now }
+{
+    &told[..MOST.min(told.len())]
 }
 
 /// Appends how many failures are not told.
@@ -36,12 +41,20 @@ pub(crate) fn put_messages(
 fn put_more(out: &mut Vec<u8>, told: &[Told]) -> Result<(), NoMemory>
     ensures { OnOk result (out.new.items ≡ out.old.items ++ more_words told.now) }
 {
-    if told.len() > MOST {
-        out.extend_from_slice(b"Failures that are not told here: ")?;
-        put_unsigned(out, (told.len() - MOST) as u64)?;
-        out.extend_from_slice(b".\n")?;
+    if MOST < told.len() {
+        put_count(out, (told.len() - MOST) as u64)
+    } else {
+        Ok(())
     }
-    Ok(())
+}
+
+#[tactic(auto, unfolding(crate::specs::Messages::count_words))]
+fn put_count(out: &mut Vec<u8>, count: u64) -> Result<(), NoMemory>
+    ensures { OnOk result (out.new.items ≡ out.old.items ++ count_words count) }
+{
+    put_text(out, "Failures that are not told here: ")?;
+    put_unsigned(out, count)?;
+    put_text(out, ".\n")
 }
 
 /// Appends the messages of failures, one after another.
@@ -70,16 +83,16 @@ fn put_one(out: &mut Vec<u8>, told: &Told, lines: &[u64], journal: &[Entry]) -> 
     let alloc = *out.allocator();
     let entry = entry_of(journal, told.finding);
     let date = date_at(alloc, entry)?;
-    put_message(out, told, line_of(lines, told.task), entry, date.as_str())
+    put_message(out, told, line_of(lines, told.task), entry, &date)
 }
 
 /// The date of an entry, or nothing where there is none.
-fn date_at(alloc: Global, entry: Option<&Entry>) -> Result<Text, NoMemory>
-    ensures { IfOk result (IsDateAt (option_copied entry.entry)) }
+fn date_at(alloc: Global, entry: Option<&Entry>) -> Result<Vec<u8>, NoMemory>
+    ensures { IfOk result (λ date. IsDateAt (option_copied entry.entry) date.items) }
 {
     match entry {
         Some(entry) => date_of(alloc, entry.moment),
-        None => Ok(Text::from_string(String::new(alloc))),
+        None => Ok(Vec::new(alloc)),
     }
 }
 

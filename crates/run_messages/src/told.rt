@@ -2,12 +2,12 @@
 
 ghost use Rattle.std.specs.Prelude.{◌≡◌, ◌++◌, IfOk, OnOk, option_copied};
 ghost use Rattle.script_fields.specs.Fields.{lines_of};
-ghost use Rattle.run_messages.specs.Told.{spoken, is_of_series, told_by, told_with, tasks_with};
+ghost use Rattle.run_messages.specs.Told.{spoken, text_of, is_of_series, told_by, told_with, tasks_with};
 
 use crate::finding::{Finding, finding_of, is_task};
 use base::{List, NoMemory};
 use label_sets::Text;
-use script_fields::cut_line;
+use script_fields::{cut_line, is_silent};
 use std::alloc::Global;
 
 /// A line of a report that tells of a failure, and how many tasks the report has told of with it.
@@ -38,14 +38,20 @@ pub fn told_in(alloc: Global, report: &[u8]) -> Result<ToldList, NoMemory>
     Ok(told)
 }
 
-/// The text of a line that may tell of a failure. Those of an answer's series are passed over, as there are many and long ones.
+/// The text of a line that may tell of a failure, or of a task. Those of series are passed over, as there are many and long ones.
 #[tactic(auto, unfolding(crate::specs::Told::spoken))]
 pub(crate) fn spoken(line: &[u8]) -> Option<&str>
     ensures { option_copied result ≡ spoken line.now }
 {
-    if is_of_series(line) {
+    if is_silent(line) || is_of_series(line) {
         return None;
     }
+    text_of(line)
+}
+
+fn text_of(line: &[u8]) -> Option<&str>
+    ensures { option_copied result ≡ text_of line.now }
+{
     match str::from_utf8(line) {
         Ok(line) => Some(line),
         Err(_) => None,

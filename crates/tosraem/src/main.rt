@@ -82,8 +82,9 @@ fn messages_of(
     script: Option<&[u8]>,
     journal: Option<&Journal>,
 ) -> Vec<u8> {
-    let Some(told) = told else {
-        return Vec::new(alloc);
+    let told = match told {
+        Some(told) if !told.is_empty() => told,
+        _ => return Vec::new(alloc),
     };
     let entries: &[Entry] = match journal {
         Some(journal) => journal.entries(),

@@ -1,9 +1,11 @@
-use Rattle.std.proofs.Common.{◌+◌, refl, sym, arith}
+use Rattle.std.proofs.Common.{ℕ, ◌+◌, List, ◌++◌, refl, sym, ap, arith}
+use Rattle.script_fields.specs.Fields.{lines_of}
+use Rattle.run_messages.specs.ScriptLines.{task_lines}
 use Rattle.run_messages.proofs.TaskLines.{tasks_go_on, tasks_whole}
 use Rattle.run_messages.proofs.script_lines.task_lines.Goals as goal
 
 pub loop-left-init : goal.loop-left-init
-loop-left-init c = (omega arith, refl)
+loop-left-init c = (omega arith, ap (λ (tasks : List ℕ). tasks ++ task_lines 1 (lines_of c.args.script.now)) c.new-lines.ensures.items)
 
 pub loop-left-preserved : goal.loop-left-preserved
 loop-left-preserved c = (
