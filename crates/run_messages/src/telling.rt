@@ -52,7 +52,7 @@ fn put_more(out: &mut Vec<u8>, told: &[Told]) -> Result<(), NoMemory>
 fn put_count(out: &mut Vec<u8>, count: u64) -> Result<(), NoMemory>
     ensures { OnOk result (out.new.items ≡ out.old.items ++ count_words count) }
 {
-    put_text(out, "Failures not told here: ")?;
+    put_text(out, "Failures not told: ")?;
     put_unsigned(out, count)?;
     put_text(out, ".\n")
 }
