@@ -102,7 +102,7 @@ abbrev pub most_told : ℕ
 most_told = 20
 
 unfoldable pub count_words : ℕ → List ℕ
-count_words count = codes "Failures not told: " ++ decimal_text count ++ codes "." ++ newline
+count_words count = codes "Failures not told: " ++ decimal_text count ++ (codes "." ++ newline)
 
 -- how many are not
 unfoldable pub more_words : List Told → List ℕ
