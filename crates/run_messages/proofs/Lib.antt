@@ -1,4 +1,5 @@
 pub mod Conflicts
+pub mod Counts
 pub mod Dated
 pub mod LineWalks
 pub mod RuleLines
