@@ -4,6 +4,7 @@ use Rattle.std.specs.Str.{bytes_eq, is_utf8}
 use Rattle.script_fields.specs.Fields.{is_silent}
 use Rattle.run_messages.specs.Findings.{finding_of, is_task}
 use Rattle.run_messages.specs.declared.finding.Finding.{Finding}
+use Rattle.run_messages.specs.declared.finding.Finding.TheVariants.{Breach}
 use Rattle.run_messages.specs.declared.told.Told.{Told}
 
 -- the line is one of an answer's series
@@ -22,9 +23,14 @@ abbrev pub tasks_with : ℕ → Option (List ℕ) → ℕ
 tasks_with tasks None = tasks
 tasks_with tasks (Some line) = if is_task line then min (tasks + 1) (2 ^ 64 - 1) else tasks
 
+-- Which task it is whose failure is told. The breach stands behind the lines of all tasks, and is of none.
+abbrev pub told_task : Finding → ℕ → ℕ
+told_task (Breach breach) task = 0
+told_task other task = task
+
 abbrev pub told_as : ℕ → List ℕ → Option Finding → List Told
 told_as task line None = []
-told_as task line (Some finding) = record { task = task; line = line; finding = finding } ∷ []
+told_as task line (Some finding) = record { task = told_task finding task; line = line; finding = finding } ∷ []
 
 -- what a line tells, with which the report has told of so many tasks
 abbrev pub told_with : ℕ → Option (List ℕ) → List Told

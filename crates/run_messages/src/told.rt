@@ -2,7 +2,7 @@
 
 ghost use Rattle.std.specs.Prelude.{◌≡◌, ◌++◌, IfOk, OnOk, option_copied};
 ghost use Rattle.script_fields.specs.Fields.{lines_of};
-ghost use Rattle.run_messages.specs.Told.{spoken, text_of, is_of_series, told_by, told_with, tasks_with};
+ghost use Rattle.run_messages.specs.Told.{spoken, text_of, is_of_series, told_by, told_task, told_with, tasks_with};
 
 use crate::finding::{Finding, finding_of, is_task};
 use base::{List, NoMemory};
@@ -10,7 +10,7 @@ use label_sets::Text;
 use script_fields::{cut_line, is_silent};
 use std::alloc::Global;
 
-/// A line of a report that tells of a failure, and how many tasks the report has told of with it.
+/// A line of a report that tells of a failure. The number of its task counts from 1, and is 0 where the line is of none.
 #[derive(Drop)]
 pub struct Told {
     pub task: u64,
@@ -74,6 +74,23 @@ fn tasks_with(tasks: u64, line: Option<&str>) -> u64
     }
 }
 
+/// Which task it is whose failure is told. The breach stands behind the lines of all tasks, and is of none.
+fn told_task(finding: Finding, task: u64) -> u64
+    ensures { result ≡ told_task finding task }
+{
+    match finding {
+        Finding::Breach(_) => 0,
+        Finding::Fault(_)
+        | Finding::Missing(_)
+        | Finding::Damaged(_)
+        | Finding::Refused(_)
+        | Finding::NoView
+        | Finding::TooMany
+        | Finding::TooLarge
+        | Finding::Script(_) => task,
+    }
+}
+
 /// Adds a line that tells of a failure.
 fn add_told(
     told: &mut ToldList,
@@ -91,7 +108,7 @@ fn add_told(
     };
     let line = Text::from_str(alloc, line)?;
     told.push(Told {
-        task,
+        task: told_task(finding, task),
         line,
         finding,
     })
