@@ -12,7 +12,6 @@ use Rattle.world_core.specs.declared.op.Op.{Op}
 use Rattle.world_core.specs.declared.op.Op.TheVariants as ops
 use Rattle.run_messages.specs.Dates.{IsDateOf}
 use Rattle.run_messages.specs.Sentences.{sentence_of}
-use Rattle.breach_finding.specs.declared.found.Breach.{Breach}
 use Rattle.breach_finding.specs.declared.found.BreachRule.{BreachRule}
 use Rattle.breach_finding.specs.declared.found.BreachRule.TheVariants as rules
 use Rattle.run_messages.specs.declared.finding.Finding.{Finding}

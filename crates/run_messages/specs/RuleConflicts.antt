@@ -1,5 +1,5 @@
 -- Which two rules of a script disagree.
-use Rattle.std.specs.Prelude.{ℕ, ◌+◌, nat_lt, List, [], ◌∷◌, ◌++◌, Bool, true, false, Option, None, Some, Result, Ok, Err, if◌then◌else◌, codes}
+use Rattle.std.specs.Prelude.{ℕ, ◌+◌, nat_lt, List, [], ◌∷◌, ◌++◌, Bool, true, false, Option, Some, Result, Ok, Err, if◌then◌else◌, codes}
 use Rattle.base.specs.Decimal.{decimal_text}
 use Rattle.base.specs.Lines.{newline}
 use Rattle.moment_core.specs.Limits.{one_second}

@@ -1,4 +1,4 @@
-use Rattle.std.proofs.Common.{refl, sym}
+use Rattle.std.proofs.Common.{sym}
 use Rattle.run_messages.proofs.ToldLines.{tells_on, told_whole}
 use Rattle.run_messages.proofs.told.told_in.Goals as goal
 
