@@ -10,7 +10,7 @@ use bucket_core::{MemorySink, MemorySource};
 use run_messages::{messages, told_in};
 use std::alloc::Global;
 use wire_bytes::Blob;
-use world_core::{Entry, Journal};
+use world_core::Journal;
 
 /// Prints the messages on the failures of a run by one thread, over memory and no shelf.
 pub(crate) fn print_messages(rt: &HostRuntime, named: &[Named], how: &str, lines: &str) {
@@ -43,12 +43,11 @@ fn messages_of(
     script: &[u8],
     journal: Option<&Journal>,
 ) -> Result<Vec<u8>, NoMemory> {
-    let entries: &[Entry] = match journal {
-        Some(journal) => journal.entries(),
-        None => Default::default(),
-    };
     let told = told_in(alloc, report)?;
-    let text = messages(alloc, &told, script, entries);
+    let text = match journal {
+        Some(journal) => messages(alloc, &told, script, journal.entries()),
+        None => messages(alloc, &told, script, Default::default()),
+    };
     drop(told);
     text
 }

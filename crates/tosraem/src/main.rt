@@ -30,7 +30,7 @@ use std::process::ExitCode;
 use std::sync::Wait;
 use std::thread::Threads;
 use std::{env, io};
-use world_core::{Entry, Journal};
+use world_core::Journal;
 
 fn main(rt: HostRuntime) -> ExitCode {
     let alloc = rt.alloc();
@@ -82,15 +82,18 @@ fn messages_of(
     script: Option<&[u8]>,
     journal: Option<&Journal>,
 ) -> Vec<u8> {
-    let told = match told {
-        Some(told) if !told.is_empty() => told,
-        _ => return Vec::new(alloc),
+    let Some(told) = told else {
+        return Vec::new(alloc);
     };
-    let entries: &[Entry] = match journal {
-        Some(journal) => journal.entries(),
-        None => Default::default(),
+    if told.is_empty() {
+        return Vec::new(alloc);
+    }
+    let script = script.unwrap_or_default();
+    let made = match journal {
+        Some(journal) => messages(alloc, told, script, journal.entries()),
+        None => messages(alloc, told, script, Default::default()),
     };
-    match messages(alloc, told, script.unwrap_or_default(), entries) {
+    match made {
         Ok(messages) => messages,
         Err(NoMemory) => Vec::new(alloc),
     }
