@@ -1,2 +1,4 @@
 pub mod Advice
 pub mod Calls
+pub mod Said
+pub mod Troubles
