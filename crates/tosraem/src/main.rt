@@ -23,7 +23,7 @@ use crate::troubles::Troubles;
 use base::NoMemory;
 use bucket_core::{Sink, Site, Source};
 use dir_bucket::HostSite;
-use replay_cli::{Crew, ReaderSource, Run, Status, WriterSink, run_replay, run_tool};
+use replay_cli::{Crew, ReaderSource, Run, Status, run_replay, run_tool};
 use run_messages::{ToldList, messages};
 use std::alloc::Global;
 use std::process::ExitCode;
