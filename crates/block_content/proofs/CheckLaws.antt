@@ -4,10 +4,10 @@ use Rattle.std.specs.Prelude.{IfOk, IfErr, IsErrAnd, ◌≢◌}
 use Rattle.std.specs.List.{AllByRecursion, AllZip}
 use Rattle.std.specs.Ordering.{int_eq}
 use Rattle.std.proofs.lemmas.Bool.Decides.{Decides-int_eq, Decides-eqb}
-use Rattle.std.proofs.lemmas.Bool.{true≢false, false_from_ne_true, eq-eqb, ne_eqb}
+use Rattle.std.proofs.lemmas.Bool.{true≢false, false_from_ne_true, cases_Bool, eq-eqb, ne_eqb}
 use Rattle.base.specs.Reading.{◌>>=◌, ◌>>◌, unless, refused_as}
 use Rattle.base.specs.Grammar.{IsBytes}
-use Rattle.base.proofs.Binds.{bind_ok, bind_err, then_ok, ok_is, err_is, unless_is, refused_as_ok, one_answer}
+use Rattle.base.proofs.Binds.{bind_ok, bind_err, then_ok, ok_is, err_is, unless_is, refused_as_ok, refused_as_err, one_answer}
 use Rattle.label_sets.specs.declared.series.Series.{Series}
 use Rattle.label_sets.specs.Counts.{sample_count}
 use Rattle.index_parts.specs.declared.index_series.IndexSeries.{IndexSeries}
@@ -20,15 +20,17 @@ use Rattle.block_content.specs.Content.{HoldsSeries, IsContent}
 use Rattle.block_content.specs.ContentReading.{index_at, refused_index, chunked_at, contents_at, content_at}
 use Rattle.block_content.specs.ContentRefusals.{RefusesContent}
 use Rattle.block_content.specs.Named.{names_few, NamesFew}
-use Rattle.block_content.specs.Checking.{IsOwn, Passes, HasPassed, RefusesBlock}
+use Rattle.block_content.specs.ReadBytes.{reads_few, ReadsFew}
+use Rattle.block_content.specs.Checking.{IsOwn, Passes, HasPassed, ReadsMuch, HoldsMuch, RefusesBlock}
 use Rattle.block_content.specs.CheckReading.{is_alone, own_at, has_series, some_at, files_at, check_at}
 use Rattle.block_meta.specs.declared.block_files.BlockFiles.{BlockFiles}
 use Rattle.block_content.specs.declared.check_refusal.CheckRefusal.{CheckRefusal}
 use Rattle.block_content.specs.declared.check_refusal.CheckRefusal.TheVariants.{NoFile, BadMeta, UlidDiffers, NotLevelOne, SourcesNotSelf, Downsampled, TooLarge, BadIndex, EmptyBlock, BadChunk, OutsideRange, Repeated, NamesTooMuch, NoMemory}
 use Rattle.block_content.proofs.TimesAndOrder.{index_found, index_again}
-use Rattle.block_content.proofs.ContentLaws.{index_kept, content_found, content_again, content_refused, content_refuses}
+use Rattle.block_content.proofs.ContentLaws.{index_kept, index_cases, content_found, content_again, content_refused, content_refuses}
 use Rattle.block_content.proofs.ContentSteps.{behind_index}
 use Rattle.block_content.proofs.NamedBytes.{few_found, few_again}
+use Rattle.block_content.proofs.BytesRead.{none_read, reads_found, reads_again, content_reads}
 use Rattle.block_content.proofs.CheckSteps.{few_then}
 
 -- ---- what the meta says
@@ -124,25 +126,26 @@ then_parts (Err d) s e h = inl cc
 -- ---- the files
 
 module _ (files : BlockFiles) (bytes : IsBytes files.index) (are : AllByRecursion IsBytes files.segments) where
-  -- where the index has a series, checking is reading the content, and then the test that it names little
-  same_files : (indexed : List IndexSeries) → index_at files.index ≡ Ok indexed → has_series indexed ≡ true → files_at files.meta files.index files.segments ≡ (content_at files >>= few_then files.index files.segments indexed)
+  -- where the index has a series and little is read, checking is reading the content, and then the test that it names little
+  same_files : (indexed : List IndexSeries) → index_at files.index ≡ Ok indexed → has_series indexed ≡ true → reads_few files.segments indexed ≡ true → files_at files.meta files.index files.segments ≡ (content_at files >>= few_then files.index files.segments indexed)
   unfolding files_at some_at
-  same_files indexed e some =
+  same_files indexed e some few =
       let as_block : refused_as refused_index (index_at files.index) ≡ Ok indexed = ap (refused_as refused_index) e in
-      rw (as_block, some) (ap (λ (read : Result (List Series) CheckRefusal). read >>= few_then files.index files.segments indexed) (sym (behind_index files.meta files.index files.segments indexed as_block)))
+      rw (as_block, some, few) (ap (λ (read : Result (List Series) CheckRefusal). read >>= few_then files.index files.segments indexed) (sym (behind_index files.meta files.index files.segments indexed as_block)))
 
   -- the content is this, and names little or not
-  then_few : (indexed : List IndexSeries) (list : List Series) (b : Bool) → index_at files.index ≡ Ok indexed → has_series indexed ≡ true → content_at files ≡ Ok list → names_few files.index files.segments indexed ≡ b
+  then_few : (indexed : List IndexSeries) (list : List Series) (b : Bool) → index_at files.index ≡ Ok indexed → has_series indexed ≡ true → reads_few files.segments indexed ≡ true → content_at files ≡ Ok list → names_few files.index files.segments indexed ≡ b
       → files_at files.meta files.index files.segments ≡ (unless b NamesTooMuch >> Ok list)
-  then_few indexed list b e some read is =
-      same_files indexed e some ∙ ap (λ (r : Result (List Series) CheckRefusal). r >>= few_then files.index files.segments indexed) read ∙ ap (λ (c : Bool). unless c NamesTooMuch >> Ok list) is
+  then_few indexed list b e some few read is =
+      same_files indexed e some few ∙ ap (λ (r : Result (List Series) CheckRefusal). r >>= few_then files.index files.segments indexed) read ∙ ap (λ (c : Bool). unless c NamesTooMuch >> Ok list) is
 
   pub files_found : (list : List Series) → files_at files.meta files.index files.segments ≡ Ok list → IsContent files list × (list ≢ []) × NamesFew files
   unfolding files_at some_at
   files_found list e =
       let indexed = bind_ok _ _ _ e in
       let some = then_ok _ _ _ indexed.2 in
-      let read = bind_ok _ _ _ some.2 in
+      let reads = then_ok _ _ _ some.2 in
+      let read = bind_ok _ _ _ reads.2 in
       let few = then_ok _ _ _ read.2 in
       let index = refused_as_ok _ _ _ indexed.1 in
       let same_list : read.0 ≡ list = ok_is {E = CheckRefusal} _ _ few.2 in
@@ -157,34 +160,66 @@ module _ (files : BlockFiles) (bytes : IsBytes files.index) (are : AllByRecursio
   pub files_again : (list : List Series) → IsContent files list → list ≢ [] → NamesFew files → files_at files.meta files.index files.segments ≡ Ok list
   files_again list is some few =
       let index = index_again files.index is.indexed bytes is.index_is in
-      then_few is.indexed list true index (has_some is.indexed (some_of (HoldsSeries files.segments) is.indexed list is.series_are some)) (content_again files bytes are list is) (few_again files bytes is.indexed index few)
+      then_few is.indexed list true index (has_some is.indexed (some_of (HoldsSeries files.segments) is.indexed list is.series_are some)) (reads_again files bytes is.indexed index (content_reads files bytes list is few)) (content_again files bytes are list is) (few_again files bytes is.indexed index few)
 
-  files_much : (list : List Series) → IsContent files list → list ≢ [] → (NamesFew files → ⊥) → files_at files.meta files.index files.segments ≡ Err NamesTooMuch
-  files_much list is some much =
+  read_stop : (indexed : List IndexSeries) → index_at files.index ≡ Ok indexed → has_series indexed ≡ true → reads_few files.segments indexed ≡ false → files_at files.meta files.index files.segments ≡ Err NamesTooMuch
+  unfolding files_at some_at
+  read_stop indexed e some much =
+      let as_block : refused_as refused_index (index_at files.index) ≡ Ok indexed = ap (refused_as refused_index) e in
+      rw (as_block, some, much) refl
+
+  holds_much : HoldsMuch files → files_at files.meta files.index files.segments ≡ Err NamesTooMuch
+  holds_much is =
+      let content = is.content in
+      let indexed = content.indexed in
+      let index = index_again files.index indexed bytes content.index_is in
+      let some = has_some indexed (some_of (HoldsSeries files.segments) indexed is.list content.series_are is.some) in
+      let told : names_few files.index files.segments indexed ≡ false = false_from_ne_true (names_few files.index files.segments indexed) (λ passed. is.much (few_found files bytes indexed index passed)) in
+      elim (cases_Bool (reads_few files.segments indexed)) [
+        | inl few ↦ then_few indexed is.list false index some few (content_again files bytes are is.list content) told
+        | inr much ↦ read_stop indexed index some much
+      ]
+
+  reads_much : ReadsMuch files → files_at files.meta files.index files.segments ≡ Err NamesTooMuch
+  reads_much is =
       let index = index_again files.index is.indexed bytes is.index_is in
-      let told : names_few files.index files.segments is.indexed ≡ false = false_from_ne_true (names_few files.index files.segments is.indexed) (λ passed. much (few_found files bytes is.indexed index passed)) in
-      then_few is.indexed list false index (has_some is.indexed (some_of (HoldsSeries files.segments) is.indexed list is.series_are some)) (content_again files bytes are list is) told
+      let some = has_some is.indexed (λ none. is.much (none_read files (subst (IsIndex files.index) none is.index_is))) in
+      read_stop is.indexed index some (false_from_ne_true (reads_few files.segments is.indexed) (λ passed. is.much (reads_found files bytes is.indexed index passed)))
+
+  names_much : ReadsMuch files ⊎ HoldsMuch files → files_at files.meta files.index files.segments ≡ Err NamesTooMuch
+  names_much (inl is) = reads_much is
+  names_much (inr is) = holds_much is
 
   module _ (ulid : ℕ) (own : IsOwn ulid files.meta) where
-    of_content : (e : CheckRefusal) → RefusesContent files e → RefusesBlock ulid files e
-    of_content (BadIndex refusal) is = (own, is)
-    of_content (BadChunk series chunk cause) is = (own, is)
-    of_content (OutsideRange series time) is = (own, is)
-    of_content (Repeated series) is = (own, is)
-    of_content (NoFile key) is = absurd is
-    of_content (BadMeta refusal) is = absurd is
-    of_content UlidDiffers is = absurd is
-    of_content NotLevelOne is = absurd is
-    of_content SourcesNotSelf is = absurd is
-    of_content Downsampled is = absurd is
-    of_content (TooLarge key) is = absurd is
-    of_content EmptyBlock is = absurd is
-    of_content NamesTooMuch is = absurd is
-    of_content NoMemory is = absurd is
+    of_content : ReadsFew files → (e : CheckRefusal) → RefusesContent files e → RefusesBlock ulid files e
+    of_content few (BadIndex refusal) is = (own, is)
+    of_content few (BadChunk series chunk cause) is = (own, few, is)
+    of_content few (OutsideRange series time) is = (own, few, is)
+    of_content few (Repeated series) is = (own, few, is)
+    of_content few (NoFile key) is = absurd is
+    of_content few (BadMeta refusal) is = absurd is
+    of_content few UlidDiffers is = absurd is
+    of_content few NotLevelOne is = absurd is
+    of_content few SourcesNotSelf is = absurd is
+    of_content few Downsampled is = absurd is
+    of_content few (TooLarge key) is = absurd is
+    of_content few EmptyBlock is = absurd is
+    of_content few NamesTooMuch is = absurd is
+    of_content few NoMemory is = absurd is
 
-    of_either : (e : CheckRefusal) → (e ≡ NoMemory) ⊎ RefusesContent files e → (e ≡ NoMemory) ⊎ RefusesBlock ulid files e
-    of_either e (inl none) = inl none
-    of_either e (inr is) = inr (of_content e is)
+    of_either : ReadsFew files → (e : CheckRefusal) → (e ≡ NoMemory) ⊎ RefusesContent files e → (e ≡ NoMemory) ⊎ RefusesBlock ulid files e
+    of_either few e (inl none) = inl none
+    of_either few e (inr is) = inr (of_content few e is)
+
+    of_index : (e : CheckRefusal) → refused_as refused_index (index_at files.index) ≡ Err e → (e ≡ NoMemory) ⊎ RefusesBlock ulid files e
+    of_index e h =
+        let r = refused_as_err refused_index (index_at files.index) e h in
+        elim (index_cases r.0) [
+          | inl none ↦ inl (sym r.2 ∙ none)
+          | inr (kept, other) ↦
+              let why : RefusesBlock ulid files (BadIndex r.0) = (own, (r.1, other)) in
+              inr (subst (RefusesBlock ulid files) (sym kept ∙ r.2) why)
+        ]
 
     much_refused : (indexed : List IndexSeries) (list : List Series) (e : CheckRefusal) → refused_as refused_index (index_at files.index) ≡ Ok indexed → has_series indexed ≡ true → content_at files ≡ Ok list → few_then files.index files.segments indexed list ≡ Err e → RefusesBlock ulid files e
     much_refused indexed list e read some held h =
@@ -194,40 +229,56 @@ module _ (files : BlockFiles) (bytes : IsBytes files.index) (are : AllByRecursio
               let is = content_found files bytes are list held in
               let own_index = one_answer indexed is.indexed (index_at files.index) index (index_again files.index is.indexed bytes is.index_is) in
               let there : list ≢ [] = some_with (HoldsSeries files.segments) is.indexed list is.series_are (subst (λ (xs : List IndexSeries). xs ≢ []) own_index (are_some indexed some)) in
-              let why : RefusesBlock ulid files NamesTooMuch = (own, (list, is, there), λ few. true≢false (sym (few_again files bytes indexed index few) ∙ much)) in
+              let holds : HoldsMuch files = record { list = list; content = is; some = there; much = λ few. true≢false (sym (few_again files bytes indexed index few) ∙ much) } in
+              let why : RefusesBlock ulid files NamesTooMuch = (own, inr holds) in
               subst (RefusesBlock ulid files) same why
           | inr (few, refused) ↦ absurd cc
+        ]
+
+    chunks_refused : (indexed : List IndexSeries) (e : CheckRefusal) → refused_as refused_index (index_at files.index) ≡ Ok indexed → has_series indexed ≡ true → reads_few files.segments indexed ≡ true
+        → (chunked_at files.meta files.segments indexed >>= few_then files.index files.segments indexed) ≡ Err e → (e ≡ NoMemory) ⊎ RefusesBlock ulid files e
+    chunks_refused indexed e read some few h =
+        let little = reads_found files bytes indexed (refused_as_ok _ _ _ read) few in
+        elim (bind_err (chunked_at files.meta files.segments indexed) (few_then files.index files.segments indexed) e h) [
+          | inl refused ↦ of_either little e (content_refused files bytes are e (behind_index files.meta files.index files.segments indexed read ∙ refused))
+          | inr (list, held, much) ↦ inr (much_refused indexed list e read some (behind_index files.meta files.index files.segments indexed read ∙ held) much)
+        ]
+
+    few_refused : (indexed : List IndexSeries) (e : CheckRefusal) → refused_as refused_index (index_at files.index) ≡ Ok indexed → has_series indexed ≡ true
+        → (unless (reads_few files.segments indexed) NamesTooMuch >> (chunked_at files.meta files.segments indexed >>= few_then files.index files.segments indexed)) ≡ Err e → (e ≡ NoMemory) ⊎ RefusesBlock ulid files e
+    few_refused indexed e read some h =
+        let index = refused_as_ok _ _ _ read in
+        elim (test_failed (reads_few files.segments indexed) NamesTooMuch (chunked_at files.meta files.segments indexed >>= few_then files.index files.segments indexed) e h) [
+          | inl (much, same) ↦
+              let reads : ReadsMuch files = record { indexed = indexed; index_is = index_found files.index indexed bytes index; much = λ few. true≢false (sym (reads_again files bytes indexed index few) ∙ much) } in
+              let why : RefusesBlock ulid files NamesTooMuch = (own, inl reads) in
+              inr (subst (RefusesBlock ulid files) same why)
+          | inr (few, behind) ↦ chunks_refused indexed e read some few behind
         ]
 
     some_refused : (indexed : List IndexSeries) (e : CheckRefusal) → refused_as refused_index (index_at files.index) ≡ Ok indexed → some_at files.meta files.index files.segments indexed ≡ Err e → (e ≡ NoMemory) ⊎ RefusesBlock ulid files e
     unfolding some_at
     some_refused indexed e read h =
-        elim (test_failed (has_series indexed) EmptyBlock (chunked_at files.meta files.segments indexed >>= few_then files.index files.segments indexed) e h) [
+        elim (test_failed (has_series indexed) EmptyBlock (unless (reads_few files.segments indexed) NamesTooMuch >> (chunked_at files.meta files.segments indexed >>= few_then files.index files.segments indexed)) e h) [
           | inl (none, same) ↦
               let index = index_found files.index indexed bytes (refused_as_ok _ _ _ read) in
               let why : RefusesBlock ulid files EmptyBlock = (own, subst (IsIndex files.index) (has_none indexed none) index) in
               inr (subst (RefusesBlock ulid files) same why)
-          | inr (some, behind) ↦ elim (bind_err (chunked_at files.meta files.segments indexed) (few_then files.index files.segments indexed) e behind) [
-            | inl refused ↦ of_either e (content_refused files bytes are e (behind_index files.meta files.index files.segments indexed read ∙ refused))
-            | inr (list, held, much) ↦ inr (much_refused indexed list e read some (behind_index files.meta files.index files.segments indexed read ∙ held) much)
-          ]
+          | inr (some, behind) ↦ few_refused indexed e read some behind
         ]
-
-    index_stops : (e : CheckRefusal) → refused_as refused_index (index_at files.index) ≡ Err e → content_at files ≡ Err e
-    unfolding contents_at
-    index_stops e h = rw h refl
 
     pub files_refused : (e : CheckRefusal) → files_at files.meta files.index files.segments ≡ Err e → (e ≡ NoMemory) ⊎ RefusesBlock ulid files e
     unfolding files_at
     files_refused e h =
         elim (bind_err (refused_as refused_index (index_at files.index)) (λ (indexed : List IndexSeries). some_at files.meta files.index files.segments indexed) e h) [
-          | inl refused ↦ of_either e (content_refused files bytes are e (index_stops e refused))
+          | inl refused ↦ of_index e refused
           | inr (indexed, read, refused) ↦ some_refused indexed e read refused
         ]
 
-  files_stop : (e : CheckRefusal) (indexed : List IndexSeries) → IsIndex files.index indexed → indexed ≢ [] → RefusesContent files e → files_at files.meta files.index files.segments ≡ Err e
-  files_stop e indexed is some refuses =
-      same_files indexed (index_again files.index indexed bytes is) (has_some indexed some) ∙ ap (λ (read : Result (List Series) CheckRefusal). read >>= few_then files.index files.segments indexed) (content_refuses files bytes are e refuses)
+  files_stop : (e : CheckRefusal) (indexed : List IndexSeries) → IsIndex files.index indexed → indexed ≢ [] → ReadsFew files → RefusesContent files e → files_at files.meta files.index files.segments ≡ Err e
+  files_stop e indexed is some few refuses =
+      let index = index_again files.index indexed bytes is in
+      same_files indexed index (has_some indexed some) (reads_again files bytes indexed index few) ∙ ap (λ (read : Result (List Series) CheckRefusal). read >>= few_then files.index files.segments indexed) (content_refuses files bytes are e refuses)
 
   index_stop : (refusal : IndexRefusal) → index_at files.index ≡ Err refusal → refusal ≢ index.NoMemory → files_at files.meta files.index files.segments ≡ Err (BadIndex refusal)
   unfolding files_at
@@ -274,13 +325,13 @@ module _ (files : BlockFiles) (bytes : IsBytes files.index) (are : AllByRecursio
       own_stop ulid Downsampled (rw (eq-eqb files.meta.ulid ulid same, eq-eqb files.meta.level 1 first, alone_again ulid files.meta.sources one, false_from_ne_true (int_eq files.meta.resolution (pos 0)) (λ e. differ ((Decides-int_eq files.meta.resolution (pos 0)).0 e))) refl)
   check_refuses ulid (BadIndex refusal) (own, (e, other)) = behind_own ulid (BadIndex refusal) own (index_stop refusal e other)
   check_refuses ulid EmptyBlock (own, is) = behind_own ulid EmptyBlock own (empty_stop is)
-  check_refuses ulid (BadChunk series chunk cause) (own, (is, other)) =
-      behind_own ulid (BadChunk series chunk cause) own (files_stop (BadChunk series chunk cause) is.indexed is.index_is (some_at_place _ _ is.indexed is.at_series is.first) (is, other))
-  check_refuses ulid (OutsideRange series time) (own, is) =
-      behind_own ulid (OutsideRange series time) own (files_stop (OutsideRange series time) is.indexed is.index_is (some_of (HoldsSeries files.segments) is.indexed is.list is.series_are (some_at_place _ _ is.list is.at_series is.first)) is)
-  check_refuses ulid (Repeated series) (own, is) =
-      behind_own ulid (Repeated series) own (files_stop (Repeated series) is.indexed is.index_is (some_at_place _ _ is.indexed is.at_series is.first) is)
-  check_refuses ulid NamesTooMuch (own, (list, is, some), much) = behind_own ulid NamesTooMuch own (files_much list is some much)
+  check_refuses ulid (BadChunk series chunk cause) (own, few, (is, other)) =
+      behind_own ulid (BadChunk series chunk cause) own (files_stop (BadChunk series chunk cause) is.indexed is.index_is (some_at_place _ _ is.indexed is.at_series is.first) few (is, other))
+  check_refuses ulid (OutsideRange series time) (own, few, is) =
+      behind_own ulid (OutsideRange series time) own (files_stop (OutsideRange series time) is.indexed is.index_is (some_of (HoldsSeries files.segments) is.indexed is.list is.series_are (some_at_place _ _ is.list is.at_series is.first)) few is)
+  check_refuses ulid (Repeated series) (own, few, is) =
+      behind_own ulid (Repeated series) own (files_stop (Repeated series) is.indexed is.index_is (some_at_place _ _ is.indexed is.at_series is.first) few is)
+  check_refuses ulid NamesTooMuch (own, is) = behind_own ulid NamesTooMuch own (names_much is)
   check_refuses ulid (NoFile key) is = absurd is
   check_refuses ulid (BadMeta refusal) is = absurd is
   check_refuses ulid (TooLarge key) is = absurd is

@@ -16,6 +16,7 @@ use Rattle.block_content.specs.ContentReading.{chunks_at, list_of, first_outside
 use Rattle.block_content.proofs.ChunkWalks.{SeriesStopped}
 use Rattle.block_content.proofs.ContentSteps.{chunks_refused, times_refused, order_refused, all_read}
 use Rattle.block_content.specs.Named.{names_few}
+use Rattle.block_content.specs.ReadBytes.{reads_few}
 use Rattle.block_content.specs.CheckReading.{has_series, some_at, found_at, IsFirstFound, HaveCounts}
 use Rattle.label_sets.specs.declared.sample.Sample.{Sample}
 use Rattle.block_content.specs.declared.check_refusal.CheckRefusal.{CheckRefusal}
@@ -50,28 +51,32 @@ module _ (meta : Meta) (index : List ℕ) (segments : List (List ℕ)) (indexed 
   unfolding some_at
   empty_stopped none = let empty : has_series indexed ≡ false = ap has_series none in rw empty refl
 
-  chunks_follow : (indexed ≡ [] → ⊥) → some_at meta index segments indexed ≡ (chunked_at meta segments indexed >>= few_then index segments indexed)
+  pub read_much : (indexed ≡ [] → ⊥) → reads_few segments indexed ≡ false → some_at meta index segments indexed ≡ Err NamesTooMuch
   unfolding some_at
-  chunks_follow some = rw (has_some indexed some) refl
+  read_much some much = rw (has_some indexed some, much) refl
 
-  behind_chunks : (indexed ≡ [] → ⊥) → (r : Result (List Series) CheckRefusal) → chunked_at meta segments indexed ≡ r → some_at meta index segments indexed ≡ (r >>= few_then index segments indexed)
-  behind_chunks some r e = chunks_follow some ∙ ap (λ (read : Result (List Series) CheckRefusal). read >>= few_then index segments indexed) e
+  chunks_follow : (indexed ≡ [] → ⊥) → reads_few segments indexed ≡ true → some_at meta index segments indexed ≡ (chunked_at meta segments indexed >>= few_then index segments indexed)
+  unfolding some_at
+  chunks_follow some few = rw (has_some indexed some, few) refl
 
-  chunks_stopped : (e : CheckRefusal) → (indexed ≡ [] → ⊥) → (e ≡ NoMemory) ⊎ (chunked_at meta segments indexed ≡ Err e) → (e ≡ NoMemory) ⊎ (some_at meta index segments indexed ≡ Err e)
-  chunks_stopped e some (inl none) = inl none
-  chunks_stopped e some (inr h) = inr (behind_chunks some (Err e) h)
+  behind_chunks : (indexed ≡ [] → ⊥) → reads_few segments indexed ≡ true → (r : Result (List Series) CheckRefusal) → chunked_at meta segments indexed ≡ r → some_at meta index segments indexed ≡ (r >>= few_then index segments indexed)
+  behind_chunks some few r e = chunks_follow some few ∙ ap (λ (read : Result (List Series) CheckRefusal). read >>= few_then index segments indexed) e
 
-  pub counts_refused : (indexed ≡ [] → ⊥) → (e : CheckRefusal) → SeriesStopped segments indexed e → (e ≡ NoMemory) ⊎ (some_at meta index segments indexed ≡ Err e)
-  counts_refused some e stopped = chunks_stopped e some (chunks_refused meta segments indexed e stopped)
+  chunks_stopped : (e : CheckRefusal) → (indexed ≡ [] → ⊥) → reads_few segments indexed ≡ true → (e ≡ NoMemory) ⊎ (chunked_at meta segments indexed ≡ Err e) → (e ≡ NoMemory) ⊎ (some_at meta index segments indexed ≡ Err e)
+  chunks_stopped e some few (inl none) = inl none
+  chunks_stopped e some few (inr h) = inr (behind_chunks some few (Err e) h)
 
-  module _ (some : indexed ≡ [] → ⊥) (samples : ℕ) (outside : Option (ℕ × ℤ)) (repeated : Option ℕ)
+  pub counts_refused : (indexed ≡ [] → ⊥) → reads_few segments indexed ≡ true → (e : CheckRefusal) → SeriesStopped segments indexed e → (e ≡ NoMemory) ⊎ (some_at meta index segments indexed ≡ Err e)
+  counts_refused some few e stopped = chunks_stopped e some few (chunks_refused meta segments indexed e stopped)
+
+  module _ (some : indexed ≡ [] → ⊥) (reads : reads_few segments indexed ≡ true) (samples : ℕ) (outside : Option (ℕ × ℤ)) (repeated : Option ℕ)
       (counted : (parts : List (List (List Sample))) × (each_at (chunks_at segments) indexed ≡ Ok parts) × ((samples ≡ sample_count (list_of indexed parts)) × IsFirstFound (first_at (first_outside meta) (list_of indexed parts)) outside))
       (order : MatchOption repeated (first_at repeated_in indexed ≡ None) (λ found. (place : ℕ) × (first_at repeated_in indexed ≡ Some (place, tt)) × (found ≡ fitted place))) where
     pub found_refused : (e : CheckRefusal) → found_at outside repeated ≡ Err e → some_at meta index segments indexed ≡ Err e
-    found_refused e h = behind_chunks some (Err e) (refused_by meta segments indexed counted.0 counted.1 outside repeated counted.2.1 order e h)
+    found_refused e h = behind_chunks some reads (Err e) (refused_by meta segments indexed counted.0 counted.1 outside repeated counted.2.1 order e h)
 
     all_found : found_at outside repeated ≡ Ok tt → some_at meta index segments indexed ≡ few_then index segments indexed (list_of indexed counted.0)
-    all_found h = behind_chunks some (Ok (list_of indexed counted.0)) (passed_by meta segments indexed counted.0 counted.1 outside repeated counted.2.1 order h)
+    all_found h = behind_chunks some reads (Ok (list_of indexed counted.0)) (passed_by meta segments indexed counted.0 counted.1 outside repeated counted.2.1 order h)
 
     pub found_much : found_at outside repeated ≡ Ok tt → names_few index segments indexed ≡ false → some_at meta index segments indexed ≡ Err NamesTooMuch
     found_much h much = all_found h ∙ ap (λ (b : Bool). unless b NamesTooMuch >> Ok (list_of indexed counted.0)) much

@@ -59,7 +59,7 @@ stands_found segments place content are e =
     let parts = in_parts (slice_get segments place.segment) place.offset content e in
     record { segment = parts.0; named = parts.1; stands = place_found parts.0 place.offset content (segment_bytes segments place.segment parts.0 are parts.1) parts.2 }
 
-stands_again : (segments : List (List ℕ)) (place : ChunkPlace) (content : List ℕ) → StandsAt segments place content → data_of segments place ≡ Ok content
+pub stands_again : (segments : List (List ℕ)) (place : ChunkPlace) (content : List ℕ) → StandsAt segments place content → data_of segments place ≡ Ok content
 stands_again segments place content is = rw is.named (place_again is.segment place.offset content is.stands)
 
 stands_bytes : (segments : List (List ℕ)) (place : ChunkPlace) (content : List ℕ) → AllByRecursion IsBytes segments → StandsAt segments place content → IsBytes content

@@ -88,7 +88,7 @@ index_kept (index.BadSeries number part) other = refl
 index_kept (index.PostingsDiffer place) other = refl
 index_kept index.NoMemory other = absurd (other refl)
 
-index_cases : (refusal : IndexRefusal) → (refused_index refusal ≡ NoMemory) ⊎ ((refused_index refusal ≡ BadIndex refusal) × (refusal ≢ index.NoMemory))
+pub index_cases : (refusal : IndexRefusal) → (refused_index refusal ≡ NoMemory) ⊎ ((refused_index refusal ≡ BadIndex refusal) × (refusal ≢ index.NoMemory))
 index_cases index.BadMagic = inr (refl, λ h. absurd cc)
 index_cases index.BadVersion = inr (refl, λ h. absurd cc)
 index_cases (index.BadTocSum kept computed) = inr (refl, λ h. absurd cc)

@@ -17,3 +17,4 @@ pub mod ContentTests
 pub mod SpanTests
 pub mod FoundPlaces
 pub mod NamedBytes
+pub mod BytesRead

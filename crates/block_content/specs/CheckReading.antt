@@ -8,6 +8,7 @@ use Rattle.index_parts.specs.declared.index_series.IndexSeries.{IndexSeries}
 use Rattle.block_meta.specs.declared.meta.Meta.{Meta}
 use Rattle.block_content.specs.ContentReading.{index_at, refused_index, chunked_at, contents_at, fitted}
 use Rattle.block_content.specs.Named.{names_few}
+use Rattle.block_content.specs.ReadBytes.{reads_few}
 use Rattle.block_content.specs.declared.check_refusal.CheckRefusal.{CheckRefusal}
 use Rattle.block_content.specs.declared.check_refusal.CheckRefusal.TheVariants.{UlidDiffers, NotLevelOne, SourcesNotSelf, Downsampled, EmptyBlock, OutsideRange, Repeated, NamesTooMuch, NoMemory}
 
@@ -29,10 +30,11 @@ abbrev pub has_series : List IndexSeries → Bool
 has_series [] = false
 has_series (one ∷ indexed) = true
 
--- what the files hold, which is something, and names little
+-- what the files hold, which is something, of which little is read, and which names little
 unfoldable pub some_at : Meta → List ℕ → List (List ℕ) → List IndexSeries → Result (List Series) CheckRefusal
 some_at meta index segments indexed = do
   unless (has_series indexed) EmptyBlock
+  unless (reads_few segments indexed) NamesTooMuch
   list ← chunked_at meta segments indexed
   unless (names_few index segments indexed) NamesTooMuch
   Ok list

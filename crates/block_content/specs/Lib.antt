@@ -17,6 +17,7 @@ pub mod Content
 pub mod ContentReading
 pub mod StoredPlaces
 pub mod Named
+pub mod ReadBytes
 pub mod ContentRefusals
 pub mod Checking
 pub mod CheckReading

@@ -12,6 +12,7 @@ use crate::chunk_reading::segment_bytes;
 use crate::counting::{count_all, test_found};
 use crate::index_reading::read_index;
 use crate::naming::names_few;
+use crate::reading_bound::reads_few;
 use crate::{CheckRefusal, Checked};
 use block_meta::{BlockFiles, Meta};
 use index_v2::LentSeries;
@@ -66,6 +67,9 @@ fn count_some(
 {
     if indexed.is_empty() {
         return Err(CheckRefusal::EmptyBlock);
+    }
+    if !reads_few(segments, bytes, indexed) {
+        return Err(CheckRefusal::NamesTooMuch);
     }
     let counts = count_all(alloc, meta, segments, indexed)?;
     test_found(counts.outside, first_repeated(indexed))?;

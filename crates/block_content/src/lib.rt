@@ -13,6 +13,7 @@ mod counting;
 mod index_reading;
 mod naming;
 mod places;
+mod reading_bound;
 mod shipping;
 mod testing;
 

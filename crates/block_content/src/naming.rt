@@ -6,7 +6,7 @@ ghost use Rattle.block_content.specs.Named.{counted, lent_bytes, text_bytes, chu
 use index_v2::{LentLabel, LentSeries};
 
 /// How many bytes of chunks may be named for each byte of the segments.
-const CHUNK_SHARE: u64 = 8;
+pub(crate) const CHUNK_SHARE: u64 = 8;
 
 /// How many bytes of texts may be named for each byte of the index.
 const TEXT_SHARE: u64 = 64;

@@ -1,25 +1,27 @@
 -- The entry that shows why a block is refused.
-use Rattle.std.proofs.Common.{◌≡◌, ◌<◌, ℕ, zero, suc, List, [], ◌∷◌, map, Some, Result, Ok, Err, IfOk, refl, sym, ap, subst, ◌∙◌, arith}
+use Rattle.std.proofs.Common.{◌≡◌, ◌<◌, ℕ, zero, suc, List, [], ◌∷◌, length, map, None, Some, Result, Ok, Err, IfOk, refl, sym, ap, subst, ◌∙◌, ◌⊎◌, inl, inr, arith}
 use Rattle.std.specs.Prelude.{slice_get}
 use Rattle.std.specs.List.{AllZip}
 use Rattle.base.specs.declared.memory.NoMemory.{NoMemory as OutOfMemory}
 use Rattle.base.proofs.Binds.{ok_is}
 use Rattle.base.specs.Grammar.{IsBytes}
+use Rattle.base.specs.Reading.{refused_as}
 use Rattle.index_parts.specs.declared.index_series.IndexSeries.{IndexSeries}
 use Rattle.index_parts.specs.IndexFile.{IsIndex}
 use Rattle.index_parts.specs.declared.chunk_place.ChunkPlace.{ChunkPlace}
 use Rattle.index_v2.specs.declared.refusal.IndexRefusal.{IndexRefusal}
 use Rattle.block_meta.specs.declared.block_files.BlockFiles.{BlockFiles}
-use Rattle.block_content.specs.ContentReading.{fitted, index_at}
+use Rattle.block_content.specs.ContentReading.{fitted, index_at, refused_index}
 use Rattle.block_content.specs.ContentRefusals.{RefusesContent, HasBadChunk}
 use Rattle.block_content.specs.declared.check_refusal.CheckRefusal.{CheckRefusal}
 use Rattle.block_content.specs.declared.check_refusal.CheckRefusal.TheVariants.{BadChunk}
+use Rattle.block_content.specs.declared.check_refusal.CheckRefusal.TheVariants as check
 use Rattle.block_content.specs.declared.chunk_cause.ChunkCause.{ChunkCause}
 use Rattle.base.proofs.FirstLaws.{some_is}
 use Rattle.block_content.proofs.TimesAndOrder.{index_again}
 use Rattle.block_merging.specs.Inputs.{IsFirstRefused}
 use Rattle.compactor.specs.Inputs.{IsInput}
-use Rattle.compactor.specs.InputFiles.{numbers_of, IsShownBy}
+use Rattle.compactor.specs.InputFiles.{numbers_of, IsShownBy, NamesChunk, IsPlaceOf}
 use Rattle.compactor.specs.Merges.{WasReadAt, IsRefused}
 use Rattle.compactor.specs.declared.input.Input.{Input}
 use Rattle.compactor.specs.declared.input_files.Numbers.{Numbers}
@@ -65,11 +67,6 @@ refused_so blocks numbers place at number cause block read other is first stands
 
 -- ---- the entry
 
-abbrev pub IsPlaceOf : List ℕ → ℕ → ℕ → ChunkPlace → Type 0
-IsPlaceOf bytes series chunk place =
-    (indexed : List IndexSeries) (one : IndexSeries) (found : ChunkPlace) (at_series at_chunk : ℕ) → IsIndex bytes indexed → series ≡ fitted at_series → chunk ≡ fitted at_chunk
-    → slice_get indexed at_series ≡ Some one → slice_get one.chunks at_chunk ≡ Some found → place ≡ found
-
 pub shown_at : (read : Numbers) (block : BlockFiles) (cause : CheckRefusal) (series chunk : ℕ) (c : ChunkCause) (place : ChunkPlace) (number : ℕ) → cause ≡ BadChunk series chunk c → RefusesContent block cause
     → (bytes : List ℕ) → bytes ≡ block.index → IsPlaceOf bytes series chunk place → slice_get read.segments place.segment ≡ Some number → IsShownBy read block cause number
 shown_at read block cause series chunk c place number is refuses bytes bytes_are places there =
@@ -84,9 +81,64 @@ pub refused_result : (r : Result ℕ OutOfMemory) (blocks : List BlockFiles) (nu
 refused_result (Ok number) blocks numbers place at cause block read less is first stands told shown = refused_so blocks numbers place at number cause block read less is first stands told shown
 refused_result (Err none) blocks numbers place at cause block read less is first stands told shown = tt
 
-pub place_is : (bytes : List ℕ) (read : List IndexSeries) (series chunk : ℕ) (one : IndexSeries) (place : ChunkPlace) → IsBytes bytes → index_at bytes ≡ Ok read → series < 4294967295 → chunk < 4294967295
-    → slice_get read series ≡ Some one → slice_get one.chunks chunk ≡ Some place → IsPlaceOf bytes series chunk place
-place_is bytes read series chunk one place is_bytes is small few stands there indexed other found at_series at_chunk index_is series_is chunk_is so found_there =
-    let lists : read ≡ indexed = ok_is {E = IndexRefusal} read indexed (sym is ∙ index_again bytes indexed is_bytes index_is) in
-    let members : one ≡ other = some_is one other (sym stands ∙ ap (λ (l : List IndexSeries). slice_get l series) lists ∙ ap (slice_get indexed) (stands_for_itself series at_series small series_is) ∙ so) in
-    some_is place found (sym there ∙ ap (λ (s : IndexSeries). slice_get s.chunks chunk) members ∙ ap (slice_get other.chunks) (stands_for_itself chunk at_chunk few chunk_is) ∙ found_there)
+-- where a block is refused for a chunk, its index names this
+pub names_chunk : (block : BlockFiles) (cause : CheckRefusal) (series chunk : ℕ) (c : ChunkCause) (bytes : List ℕ) → cause ≡ BadChunk series chunk c → RefusesContent block cause → bytes ≡ block.index → NamesChunk bytes series chunk
+names_chunk block cause series chunk c bytes is refuses bytes_are =
+    let bad : HasBadChunk block series chunk c = (subst (RefusesContent block) is refuses).0 in
+    record {
+      indexed = bad.indexed;
+      index_is = subst (λ (b : List ℕ). IsIndex b bad.indexed) (sym bytes_are) bad.index_is;
+      at_series = bad.at_series;
+      at_chunk = bad.at_chunk;
+      one = bad.first.member;
+      place = bad.first.bad.member;
+      stands = bad.first.stands;
+      names = bad.first.bad.stands;
+      series_is = bad.series_is;
+      chunk_is = bad.chunk_is;
+    }
+
+module _ (bytes : List ℕ) (is_bytes : IsBytes bytes) where
+  one_list : (read indexed : List IndexSeries) → IsIndex bytes read → IsIndex bytes indexed → read ≡ indexed
+  one_list read indexed is other = ok_is {E = IndexRefusal} read indexed (sym (index_again bytes read is_bytes is) ∙ index_again bytes indexed is_bytes other)
+
+  -- an index is read, unless memory runs out
+  pub read_wants : (indexed : List IndexSeries) (e : CheckRefusal) → IsIndex bytes indexed → (e ≡ check.NoMemory) ⊎ (refused_as refused_index (index_at bytes) ≡ Err e) → e ≡ check.NoMemory
+  read_wants indexed e is (inl none) = none
+  read_wants indexed e is (inr h) = let both = sym (ap (refused_as refused_index) (index_again bytes indexed is_bytes is)) ∙ h in absurd cc
+
+  pub series_there : (read : List IndexSeries) (series chunk : ℕ) → IsIndex bytes read → NamesChunk bytes series chunk → series < 4294967295 → slice_get read series ≡ None → ⊥
+  series_there read series chunk is names small none =
+      let same = ap (λ (l : List IndexSeries). slice_get l series) (one_list read names.indexed is names.index_is) ∙ ap (slice_get names.indexed) (stands_for_itself series names.at_series small names.series_is) in
+      let both = sym none ∙ same ∙ names.stands in
+      absurd cc
+
+  pub chunk_there : (read : List IndexSeries) (one : IndexSeries) (series chunk : ℕ) → IsIndex bytes read → NamesChunk bytes series chunk → series < 4294967295 → chunk < 4294967295 → slice_get read series ≡ Some one → slice_get one.chunks chunk ≡ None → ⊥
+  chunk_there read one series chunk is names small few stands none =
+      let same = ap (λ (l : List IndexSeries). slice_get l series) (one_list read names.indexed is names.index_is) ∙ ap (slice_get names.indexed) (stands_for_itself series names.at_series small names.series_is) in
+      let members : one ≡ names.one = some_is one names.one (sym stands ∙ same ∙ names.stands) in
+      let both = sym none ∙ ap (λ (s : IndexSeries). slice_get s.chunks chunk) members ∙ ap (slice_get names.one.chunks) (stands_for_itself chunk names.at_chunk few names.chunk_is) ∙ names.names in
+      absurd cc
+
+  pub place_is : (read : List IndexSeries) (series chunk : ℕ) (one : IndexSeries) (place : ChunkPlace) → IsIndex bytes read → series < 4294967295 → chunk < 4294967295
+      → slice_get read series ≡ Some one → slice_get one.chunks chunk ≡ Some place → IsPlaceOf bytes series chunk place
+  place_is read series chunk one place is small few stands there indexed other found at_series at_chunk index_is series_is chunk_is so found_there =
+      let lists : read ≡ indexed = one_list read indexed is index_is in
+      let members : one ≡ other = some_is one other (sym stands ∙ ap (λ (l : List IndexSeries). slice_get l series) lists ∙ ap (slice_get indexed) (stands_for_itself series at_series small series_is) ∙ so) in
+      some_is place found (sym there ∙ ap (λ (s : IndexSeries). slice_get s.chunks chunk) members ∙ ap (slice_get other.chunks) (stands_for_itself chunk at_chunk few chunk_is) ∙ found_there)
+
+-- ---- what cannot be
+
+-- the first block that is refused stands in the list
+pub block_there : (blocks : List BlockFiles) (place at : ℕ) (cause : CheckRefusal) → place < 4294967295 → place ≡ fitted at → IsFirstRefused blocks at cause → slice_get blocks place ≡ None → ⊥
+block_there blocks place at cause less is first none =
+    let both = sym none ∙ ap (slice_get blocks) (stands_for_itself place at less is) ∙ first.stands in
+    absurd cc
+
+-- a list of the same length has a member at the same place
+pub member_there : {A B : Type 0} (xs : List A) (ys : List B) (k : ℕ) (y : B) → length xs ≡ length ys → slice_get ys k ≡ Some y → slice_get xs k ≡ None → ⊥
+member_there [] [] k y same there none = absurd cc
+member_there [] (z ∷ ys) k y same there none = absurd (omega (arith, same))
+member_there (x ∷ xs) [] k y same there none = absurd (omega (arith, same))
+member_there (x ∷ xs) (z ∷ ys) zero y same there none = absurd cc
+member_there (x ∷ xs) (z ∷ ys) (suc k) y same there none = member_there xs ys k y (omega (arith, same)) there none

@@ -1,15 +1,15 @@
 //! What becomes of the blocks that a compaction read.
 ghost use Rattle.std.specs.Prelude.{◌≡◌, ◌≤◌, ℕ, List, length, map, slice_get, Some, IfOk};
 ghost use Rattle.std.specs.List.{AllByRecursion, AllZip};
+ghost use Rattle.base.specs.Grammar.{IsBytes};
 ghost use Rattle.index_parts.specs.declared.index_series.IndexSeries.{IndexSeries};
 ghost use Rattle.index_parts.specs.IndexFile.{IsIndex};
-ghost use Rattle.index_parts.specs.declared.chunk_place.ChunkPlace.{ChunkPlace};
 ghost use Rattle.block_content.specs.ContentReading.{fitted};
 ghost use Rattle.block_content.specs.ContentRefusals.{RefusesContent};
 ghost use Rattle.block_merging.specs.Inputs.{IsFirstRefused};
 ghost use Rattle.compactor.specs.Inputs.{IsInput, HasFew};
 ghost use Rattle.vertical_merge.specs.Compacted.{IsCompactedPlan};
-ghost use Rattle.compactor.specs.InputFiles.{numbers_of, AreFiles, IsShownBy};
+ghost use Rattle.compactor.specs.InputFiles.{numbers_of, AreFiles, IsShownBy, NamesChunk, IsPlaceOf};
 ghost use Rattle.compactor.specs.Merges.{IsMerging, IsRefused};
 ghost use Rattle.compactor.specs.declared.input.Input.{Input};
 
@@ -21,6 +21,7 @@ use block_merging::{MergeRefusal, merge_blocks};
 use block_meta::{BlockFiles, BlockPlan};
 use group_planner::MetaList;
 use index_parts::ChunkPlace;
+use index_v2::LentSeries;
 use label_sets::{LabelSet, TextList};
 use std::alloc::Global;
 use ulid_core::Ulid;
@@ -64,6 +65,7 @@ fn merge_files(
     files: &InputFiles,
 ) -> Result<Merging, NoMemory>
     requires many { 2 ≤ length files.now.blocks }
+    requires numbered { length files.now.numbers ≡ length files.now.blocks }
     ensures { (inputs : List Input) → AreFiles inputs files.now.blocks files.now.numbers
         → IfOk result (IsMerging replicas.now ulid labels.now inputs) }
 {
@@ -116,7 +118,8 @@ fn refused_at(
     place: u32,
     cause: CheckRefusal,
 ) -> Result<u64, NoMemory>
-    requires { (at : ℕ) × IsFirstRefused blocks.now at cause × (place ≡ fitted at) }
+    requires refused { (at : ℕ) × IsFirstRefused blocks.now at cause × (place ≡ fitted at) }
+    requires many { length numbers.now ≡ length blocks.now }
     ensures { IfOk result (λ number. (inputs : List Input) → AllZip IsInput inputs blocks.now
         → numbers.now ≡ map numbers_of inputs → IsRefused inputs blocks.now number) }
 {
@@ -125,10 +128,10 @@ fn refused_at(
         return Err(NoMemory);
     }
     let Some(block) = blocks.get(place as usize) else {
-        return Err(NoMemory);
+        unreachable!();
     };
     let Some(read) = numbers.get(place as usize) else {
-        return Err(NoMemory);
+        unreachable!();
     };
     number_of(alloc, block, read, cause)
 }
@@ -166,26 +169,43 @@ fn member_at(chunks: &[ChunkPlace], at: usize) -> Option<ChunkPlace>
     chunks.get(at).copied()
 }
 
+/// What is wanting where an index was read before.
+fn only_memory(refusal: CheckRefusal) -> NoMemory
+    requires { refusal ≡ CheckRefusal.NoMemory }
+{
+    match refusal {
+        CheckRefusal::NoMemory => NoMemory,
+        _ => unreachable!(),
+    }
+}
+
+/// The series of an index that was read before.
+fn read_again(alloc: Global, index: &[u8]) -> Result<List<LentSeries<'_>>, NoMemory>
+    requires { (indexed : List IndexSeries) × IsIndex index.now indexed }
+    ensures read { IfOk result (IsIndex index.now) }
+    ensures bytes { IsBytes index.now }
+{
+    match read_index(alloc, index) {
+        Ok(indexed) => Ok(indexed),
+        Err(refusal) => Err(only_memory(refusal)),
+    }
+}
+
 /// The place of a chunk of an index, by the numbers that a refusal gives of its series and of itself.
 fn place_of(alloc: Global, index: &[u8], series: u32, chunk: u32) -> Result<ChunkPlace, NoMemory>
-    ensures { IfOk result (λ place. (indexed : List IndexSeries) (one : IndexSeries)
-        (found : ChunkPlace) (at_series at_chunk : ℕ) → IsIndex index.now indexed
-        → series ≡ fitted at_series → chunk ≡ fitted at_chunk
-        → slice_get indexed at_series ≡ Some one → slice_get one.chunks at_chunk ≡ Some found
-        → place ≡ found) }
+    requires { NamesChunk index.now series chunk }
+    ensures { IfOk result (IsPlaceOf index.now series chunk) }
 {
-    // A number of 32 bits stands for itself below the greatest one. No index of a block has so many series or chunks.
+    // A number of 32 bits stands for itself below the greatest one. No memory holds an index of so many series or chunks.
     if series == u32::MAX || chunk == u32::MAX {
         return Err(NoMemory);
     }
-    let Ok(indexed) = read_index(alloc, index) else {
-        return Err(NoMemory);
-    };
+    let indexed = read_again(alloc, index)?;
     let Some(one) = indexed.get(series as usize) else {
-        return Err(NoMemory);
+        unreachable!();
     };
     match member_at(one.chunks(), chunk as usize) {
         Some(place) => Ok(place),
-        None => Err(NoMemory),
+        None => unreachable!(),
     }
 }

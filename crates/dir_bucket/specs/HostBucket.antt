@@ -6,9 +6,10 @@ use Rattle.bucket_core.specs.KeyLaw.{told_is_key as objects_are_keys}
 use Rattle.bucket_core.specs.MemoryBucket.{objects_held, faults_counted as memory_faults, IsQuiet as IsQuietMemory}
 use Rattle.bucket_core.specs.Noted.{calls_told}
 use Rattle.bucket_core.specs.Told.{BucketTold}
-use Rattle.dir_bucket.specs.Folders.{bucket_faults, bucket_folder}
+use Rattle.dir_bucket.specs.Folders.{bucket_faults, bucket_folder, bucket_trouble}
 use Rattle.dir_bucket.specs.declared.host_bucket.HostBucket.{HostBucket}
 use Rattle.dir_bucket.specs.declared.host_bucket.HostBucket.TheVariants.{Memory, Folder}
+use Rattle.dir_bucket.specs.declared.trouble.Trouble.{Trouble}
 
 -- what stands in memory; nothing is told of a folder
 abbrev pub contents_told : {R F D : Type 0} → HostBucket R F D → Option Contents
@@ -28,6 +29,11 @@ faults_counted (Folder bucket notes) = bucket_faults bucket
 abbrev pub folder_of : {R F D : Type 0} → HostBucket R F D → Option (List ℕ)
 folder_of (Memory bucket notes) = None
 folder_of (Folder bucket notes) = Some (bucket_folder bucket)
+
+-- why the first of its calls failed that did, as far as the system tells
+abbrev pub trouble_of : {R F D : Type 0} → HostBucket R F D → Option Trouble
+trouble_of (Memory bucket notes) = None
+trouble_of (Folder bucket notes) = bucket_trouble bucket
 
 -- a folder may fail at any call
 abbrev pub IsQuiet : {R F D : Type 0} → HostBucket R F D → Type 0

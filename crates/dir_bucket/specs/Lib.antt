@@ -4,3 +4,4 @@ pub mod HostSite
 pub mod Listings
 pub mod Names
 pub mod Places
+pub mod Troubles

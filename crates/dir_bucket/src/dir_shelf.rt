@@ -1,16 +1,18 @@
 //! The shelf of a run: the blocks in a folder as Prometheus leaves them there, which are only read. It tells which
 //! files it was asked for, so that a contract can say that a check reads each file of its block once.
 
-ghost use Rattle.std.specs.Prelude.{◌≡◌, ◌≤◌, [], Some, IfOk, false};
+ghost use Rattle.std.specs.Prelude.{◌≡◌, ◌≤◌, [], None, Some, IfOk, false};
 ghost use Rattle.std.specs.String.{string_bytes};
 ghost use Rattle.bucket_core.specs.Causes.{CountsFaults, file_failed};
 ghost use Rattle.bucket_core.specs.Files.{IsWithinLimit, ShowsFile};
-ghost use Rattle.dir_bucket.specs.Folders.{names_noted, shelf_faults, shelf_folder};
+ghost use Rattle.dir_bucket.specs.Folders.{names_noted, shelf_faults, shelf_folder, shelf_trouble};
+ghost use Rattle.dir_bucket.specs.Troubles.{KeepsTrouble};
 
 use crate::files::{is_absent, read_range};
 use crate::names::is_plain;
+use crate::trouble::Trouble;
 use base::NoMemory;
-use bucket_core::{FILE_LIMIT, NameNotes, Shelf, ShelfAnswer, SiteRefusal};
+use bucket_core::{FILE_LIMIT, NameNotes, Shelf, ShelfAnswer};
 use std::io::ErrorKind;
 use std::rt::Files;
 use std::{fs, io};
@@ -25,13 +27,15 @@ pub struct DirShelf<R: Files + AllocGlobal + Clone + Drop> {
     rt: R,
     folder: String,
     faults: u64,
+    trouble: Option<Trouble>,
     names: NameNotes,
 }
 
 impl<R: Files + AllocGlobal + Clone + Drop> DirShelf<R> {
-    /// The shelf of a folder. `Failed` is answered where it can't be listed.
-    pub fn open(rt: R, folder: &str) -> Result<DirShelf<R>, SiteRefusal>
+    /// The shelf of a folder. There is trouble where it can't be listed.
+    pub fn open(rt: R, folder: &str) -> Result<DirShelf<R>, Trouble>
         ensures fresh { IfOk result (λ shelf. shelf_faults shelf ≡ 0) }
+        ensures calm { IfOk result (λ shelf. shelf_trouble shelf ≡ None) }
         ensures unasked { IfOk result (λ shelf. names_noted shelf ≡ []) }
         ensures folder { IfOk result (λ shelf. shelf_folder shelf ≡ folder.now) }
     {
@@ -40,11 +44,18 @@ impl<R: Files + AllocGlobal + Clone + Drop> DirShelf<R> {
                 rt,
                 folder,
                 faults: 0,
+                trouble: None,
                 names: NameNotes::new(),
             }),
-            Err(error) if error.kind() == ErrorKind::OutOfMemory => Err(SiteRefusal::NoMemory),
-            Err(_) => Err(SiteRefusal::Failed),
+            Err(error) => Err(Trouble::of(&error)),
         }
+    }
+
+    /// Why the first of its reads failed that did.
+    pub fn trouble(&self) -> Option<Trouble>
+        ensures { result ≡ shelf_trouble self.now }
+    {
+        self.trouble
     }
 
     /// What a read is answered, where a failure is counted.
@@ -57,6 +68,8 @@ impl<R: Files + AllocGlobal + Clone + Drop> DirShelf<R> {
         ensures folder { shelf_folder self.new ≡ shelf_folder self.old }
         ensures faults { CountsFaults (shelf_faults self.old) (shelf_faults self.new)
             (file_failed result) }
+        ensures trouble { KeepsTrouble (shelf_trouble self.old) (shelf_trouble self.new)
+            (file_failed result) }
     {
         match read {
             Ok(bytes) if bytes.len() > FILE_LIMIT => ShelfAnswer::TooLarge,
@@ -66,8 +79,9 @@ impl<R: Files + AllocGlobal + Clone + Drop> DirShelf<R> {
             },
             Err(error) if is_absent(&error) => ShelfAnswer::Absent,
             Err(error) if error.kind() == ErrorKind::OutOfMemory => ShelfAnswer::NoMemory,
-            Err(_) => {
+            Err(error) => {
                 self.faults = self.faults.saturating_add(1);
+                self.trouble = self.trouble.or(Some(Trouble::of(&error)));
                 ShelfAnswer::Failed
             }
         }
@@ -87,8 +101,9 @@ impl<R: Files + AllocGlobal + Clone + Drop> Shelf for DirShelf<R> {
     ghost use Rattle.bucket_core.specs.Asking.{AsksOnce};
     ghost use Rattle.bucket_core.specs.Causes.{CountsFaults, file_failed};
     ghost use Rattle.bucket_core.specs.Files.{IsWithinLimit};
-    ghost use Rattle.dir_bucket.specs.Folders.{shelf_faults, shelf_folder, shelf_told};
+    ghost use Rattle.dir_bucket.specs.Folders.{shelf_faults, shelf_folder, shelf_told, shelf_trouble};
     ghost use Rattle.dir_bucket.specs.Names.{is_plain as is_plain_name};
+    ghost use Rattle.dir_bucket.specs.Troubles.{KeepsTrouble};
 
     ghost told = { shelf_told };
 
@@ -99,6 +114,8 @@ impl<R: Files + AllocGlobal + Clone + Drop> Shelf for DirShelf<R> {
             name.now result ShelfAnswer.NoMemory }
         ensures folder { shelf_folder self.new ≡ shelf_folder self.old }
         ensures faults { CountsFaults (shelf_faults self.old) (shelf_faults self.new)
+            (file_failed result) }
+        ensures trouble { KeepsTrouble (shelf_trouble self.old) (shelf_trouble self.new)
             (file_failed result) }
         ensures strange { is_plain_name name.now ≡ false → result ≡ ShelfAnswer.Absent }
     {

@@ -31,7 +31,16 @@ fn write_whole<R: Files>(rt: &R, path: &str, bytes: &[u8]) -> io::Result<()> {
     file.sync_all()
 }
 
+/// Makes the file at a path by way of a temporary one, with the folders that it lies in.
+fn make_file<R: Files>(rt: &R, temporary: &str, path: &str, bytes: &[u8]) -> io::Result<()> {
+    fs::create_dir_all(rt, parent(path))?;
+    write_whole(rt, temporary, bytes)?;
+    fs::rename(rt, temporary, path)
+}
+
 /// Makes the file of a name, with the folders that it lies in. What stood there stands until the last step is done.
+///
+/// Where a step fails, the temporary file and the folders that are empty then are taken away, as far as they can be.
 pub(crate) fn put_file<R: Files + AllocGlobal>(
     rt: &R,
     folder: &str,
@@ -40,9 +49,34 @@ pub(crate) fn put_file<R: Files + AllocGlobal>(
 ) -> io::Result<()> {
     let path = path_of(rt, folder, name)?;
     let temporary = path_of(rt, folder, TEMPORARY)?;
-    fs::create_dir_all(rt, parent(path.as_str()))?;
-    write_whole(rt, temporary.as_str(), bytes)?;
-    fs::rename(rt, temporary.as_str(), path.as_str())
+    let made = make_file(rt, temporary.as_str(), path.as_str(), bytes);
+    if made.is_err() {
+        let _ = fs::remove_file(rt, temporary.as_str());
+        remove_empty_folders(rt, folder, name);
+    }
+    made
+}
+
+/// Takes those folders away in which a name lies and that are empty, from the innermost one out. One that can't be taken away
+/// stays, with all that are around it.
+fn remove_empty_folders<R: Files + AllocGlobal>(rt: &R, folder: &str, name: &str) {
+    let mut inner = parent(name);
+    for _ in 0..name.len() {
+        if inner.is_empty() || remove_folder(rt, folder, inner).is_err() {
+            return;
+        }
+        inner = parent(inner);
+    }
+}
+
+fn remove_folder<R: Files + AllocGlobal>(rt: &R, folder: &str, name: &str) -> io::Result<()> {
+    let path = path_of(rt, folder, name)?;
+    fs::remove_dir(rt, path.as_str())
+}
+
+/// Waits until the names in a folder are on the disk.
+fn sync_folder<R: Files>(rt: &R, path: &str) -> io::Result<()> {
+    File::open(rt, path)?.sync_all()
 }
 
 /// Waits until the name of a file, and those of the folders that it lies in, are on the disk.
@@ -53,21 +87,42 @@ pub(crate) fn sync_names<R: Files + AllocGlobal>(
 ) -> io::Result<()> {
     let mut path = String::from_str(rt.alloc(), folder)?;
     for part in name.split('/') {
-        File::open(rt, path.as_str())?.sync_all()?;
+        sync_folder(rt, path.as_str())?;
         path.push('/')?;
         path.push_str(part)?;
     }
     Ok(())
 }
 
-/// Takes the file of a name away.
+/// Waits until it is on the disk that a file is gone, and that those of its folders are which were taken away with it.
+pub(crate) fn sync_removal<R: Files + AllocGlobal>(
+    rt: &R,
+    folder: &str,
+    name: &str,
+) -> io::Result<()> {
+    let mut path = String::from_str(rt.alloc(), folder)?;
+    for part in name.split('/') {
+        match sync_folder(rt, path.as_str()) {
+            Ok(()) => {}
+            Err(error) if is_absent(&error) => return Ok(()),
+            Err(error) => return Err(error),
+        }
+        path.push('/')?;
+        path.push_str(part)?;
+    }
+    Ok(())
+}
+
+/// Takes the file of a name away, and those of its folders that are empty then.
 pub(crate) fn remove_file<R: Files + AllocGlobal>(
     rt: &R,
     folder: &str,
     name: &str,
 ) -> io::Result<()> {
     let path = path_of(rt, folder, name)?;
-    fs::remove_file(rt, path.as_str())
+    fs::remove_file(rt, path.as_str())?;
+    remove_empty_folders(rt, folder, name);
+    Ok(())
 }
 
 /// The bytes of a file from a place on, at most so many. What is no file is absent.

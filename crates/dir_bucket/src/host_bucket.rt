@@ -3,7 +3,7 @@
 
 ghost use Rattle.std.specs.Prelude.{◌≡◌};
 
-use crate::DirBucket;
+use crate::{DirBucket, Trouble};
 use bucket_core::{
     Bucket, CallNotes, DeleteAnswer, GetAnswer, MemoryBucket, PageAnswer, PutAnswer,
 };
@@ -15,6 +15,20 @@ use wire_bytes::Blob;
 pub enum HostBucket<R: Files + AllocGlobal + Clone + Drop> {
     Memory(MemoryBucket, CallNotes),
     Folder(DirBucket<R>, CallNotes),
+}
+
+impl<R: Files + AllocGlobal + Clone + Drop> HostBucket<R> {
+    ghost use Rattle.dir_bucket.specs.HostBucket.{trouble_of};
+
+    /// Why the first of its calls failed that did. A bucket in memory fails by no fault of the system.
+    pub fn trouble(&self) -> Option<Trouble>
+        ensures { result ≡ trouble_of self.now }
+    {
+        match self {
+            HostBucket::Memory(_, _) => None,
+            HostBucket::Folder(bucket, _) => bucket.trouble(),
+        }
+    }
 }
 
 impl<R: Files + AllocGlobal + Clone + Drop> Bucket for HostBucket<R> {

@@ -180,6 +180,9 @@ gaps_end rows lists number _ _ least far le = sym (far.whole ∙ ap (λ xs. earl
 pub record GapSoFar (rows : List PostingsRow) (lists : List (List ℕ)) (numbers : List ℕ) (series : List IndexSeries) (place : ℕ) (least : Option ℕ) : Type 0 where
   pub whole : gap_among rows lists (zip numbers series) ≡ earlier_place least (gap_among rows lists (zip (drop place numbers) (drop place series)))
 
+pub gap_start : (rows : List PostingsRow) (lists : List (List ℕ)) (numbers : List ℕ) (series : List IndexSeries) → GapSoFar rows lists numbers series 0 None
+gap_start _ _ _ _ = record { whole = refl }
+
 gap_among_more : (rows : List PostingsRow) (lists : List (List ℕ)) (number : ℕ) (one : IndexSeries) (numbers : List ℕ) (series : List IndexSeries) → gap_among rows lists (zip (number ∷ numbers) (one ∷ series)) ≡ earlier_place (gap_of rows lists number one.labels) (gap_among rows lists (zip numbers series))
 unfolding gap_among
 gap_among_more _ _ _ _ _ _ = refl

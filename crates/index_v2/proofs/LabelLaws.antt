@@ -52,7 +52,7 @@ all_above_nothing (l ∷ ls) is = (nothing_before l.name is.0, all_above_nothing
 
 -- ---- labels
 
-labels_parts : (symbols : List (List ℕ)) (before : List ℕ) (raw : RawLabel) (others : List RawLabel) (labels : List Label) → labels_of symbols before (raw ∷ others) ≡ Ok labels
+pub labels_parts : (symbols : List (List ℕ)) (before : List ℕ) (raw : RawLabel) (others : List RawLabel) (labels : List Label) → labels_of symbols before (raw ∷ others) ≡ Ok labels
     → (label : Label) × (behind : List Label) × (label_of symbols before raw ≡ Ok label) × (labels_of symbols label.name others ≡ Ok behind) × (label ∷ behind ≡ labels)
 unfolding labels_of
 labels_parts _ _ _ _ _ e =
@@ -60,7 +60,7 @@ labels_parts _ _ _ _ _ e =
     let others = bind_ok _ _ _ first.2 in
     (first.0, others.0, first.1, others.1, ok_is {A = List Label} {E = PartRefusal} _ _ others.2)
 
-no_labels : (symbols : List (List ℕ)) (before : List ℕ) (labels : List Label) → labels_of symbols before [] ≡ Ok labels → [] ≡ labels
+pub no_labels : (symbols : List (List ℕ)) (before : List ℕ) (labels : List Label) → labels_of symbols before [] ≡ Ok labels → [] ≡ labels
 unfolding labels_of
 no_labels _ _ _ e = ok_is {A = List Label} {E = PartRefusal} _ _ e
 
@@ -82,7 +82,7 @@ labels_lawful_read _ count p _ _ e =
     let same = ok_is {E = PartRefusal} _ _ raws.2 in
     (set_from_chain _ _ (labels_found _ _ raws.0.0 _ (ap (λ (r : Result (List Label) PartRefusal × Position). r.0) same)).2).0
 
-one_label : (symbols : List (List ℕ)) (before : List ℕ) (raw : RawLabel) (label : Label) → slice_get symbols raw.name.number ≡ Some label.name → slice_get symbols raw.value.number ≡ Some label.value → ComesBefore before label.name → 0 < length label.value → label_of symbols before raw ≡ Ok label
+pub one_label : (symbols : List (List ℕ)) (before : List ℕ) (raw : RawLabel) (label : Label) → slice_get symbols raw.name.number ≡ Some label.name → slice_get symbols raw.value.number ≡ Some label.value → ComesBefore before label.name → 0 < length label.value → label_of symbols before raw ≡ Ok label
 unfolding label_of
 one_label _ _ _ label n v ascends some = rw (n, is_lt-from_Less, v, lt-ltb 0 (length label.value) some) refl
 

@@ -29,3 +29,11 @@ pub mod Faults
 pub mod PostingsLaws
 pub mod FewLaws
 pub mod ValuesAgree
+pub mod SymbolRanks
+pub mod RankPlaces
+pub mod LabelRanks
+pub mod RowRanks
+pub mod NameOrder
+pub mod RankedGaps
+pub mod SymbolsAre
+pub mod RankedSeries

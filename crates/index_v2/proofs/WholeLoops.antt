@@ -1,5 +1,5 @@
 -- The loops over listed series and over rows: what was read of the front, and what is left, is the whole.
-use Rattle.std.proofs.Common.{◌≡◌, ℕ, zero, suc, ◌+◌, ◌-◌, ◌^◌, ◌<◌, ◌≤◌, List, [], ◌∷◌, ◌++◌, length, take, drop, get_or, Option, Some, None, Result, Ok, Err, refl, sym, ap, ◌∙◌, arith, add-one, drop-cons, ◌⊎◌, inl, inr}
+use Rattle.std.proofs.Common.{◌≡◌, ℕ, zero, suc, ◌+◌, ◌-◌, ◌^◌, ◌<◌, ◌≤◌, List, [], ◌∷◌, ◌++◌, length, take, drop, get_or, Option, Some, None, Result, Ok, Err, refl, sym, ap, subst, ◌∙◌, arith, add-one, drop-cons, ◌⊎◌, inl, inr}
 use Rattle.std.specs.Prelude.{slice_get, IfSome, IsErrAnd, MatchResult}
 use Rattle.std.specs.List.{All}
 use Rattle.std.specs.List.Sorted.{IsStrictlyIncreasing}
@@ -28,6 +28,9 @@ pub record SeriesSoFar (index : List ℕ) (symbols : List (List ℕ)) (numbers :
 pub series_start : (index : List ℕ) (symbols : List (List ℕ)) (numbers : List ℕ) → SeriesSoFar index symbols numbers 0 None []
 series_start _ _ _ = record { many = refl; small = tt; whole = again _ }
 
+pub series_begin : (index : List ℕ) (symbols : List (List ℕ)) (numbers : List ℕ) (made : List IndexSeries) → made ≡ [] → SeriesSoFar index symbols numbers 0 None made
+series_begin index symbols numbers made none = subst (SeriesSoFar index symbols numbers 0 None) (sym none) (series_start index symbols numbers)
+
 slice_get_last : (made : List IndexSeries) (one : IndexSeries) (n : ℕ) → n ≡ length made → slice_get (made ++ one ∷ []) n ≡ Some one
 slice_get_last [] _ zero e = refl
 slice_get_last [] _ (suc n) e = absurd (omega arith)
@@ -37,7 +40,7 @@ slice_get_last (m ∷ made) one (suc n) e = slice_get_last made _ n (omega arith
 last_pushed : (made : List IndexSeries) (one : IndexSeries) → last_of (made ++ one ∷ []) ≡ Some one
 last_pushed made one = slice_get_last _ _ (length (made ++ one ∷ []) - 1) (omega (arith, length-append made (one ∷ [])))
 
-at_front : (xs : List ℕ) (i x : ℕ) → i < length xs → x ≡ get_or xs i 0 → drop i xs ≡ x ∷ drop (i + 1) xs
+pub at_front : (xs : List ℕ) (i x : ℕ) → i < length xs → x ≡ get_or xs i 0 → drop i xs ≡ x ∷ drop (i + 1) xs
 at_front _ i x lt e = rw (add-one, e) (drop-cons _ i 0 lt)
 
 one_more : (index : List ℕ) (symbols : List (List ℕ)) (last : Option ℕ) (before : Option IndexSeries) (number : ℕ) (numbers : List ℕ) (one : IndexSeries) → behind_at index symbols last before number ≡ Ok one → all_at index symbols last before (number ∷ numbers) ≡ (all_at index symbols (Some number) (Some one) numbers >>= λ others. Ok (one ∷ others))

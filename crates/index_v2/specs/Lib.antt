@@ -12,3 +12,4 @@ pub mod WholeReading
 pub mod Differing
 pub mod WholeGiven
 pub mod Sizes
+pub mod Ranks

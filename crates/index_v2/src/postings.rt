@@ -9,7 +9,8 @@ ghost use Rattle.index_parts.specs.PostingsReading.{postings_at};
 ghost use Rattle.index_parts.specs.declared.postings_row.PostingsRow.{PostingsRow};
 ghost use Rattle.index_parts.specs.declared.refusal.PartRefusal.TheVariants.{Short};
 ghost use Rattle.index_v2.specs.Opening.{refused_in, postings_section};
-ghost use Rattle.std.specs.List.Sorted.{IsStrictlyIncreasing};
+ghost use Rattle.index_parts.specs.Rows.{compare_rows};
+ghost use Rattle.std.specs.List.Sorted.{IsStrictlyIncreasing, IsStrictlySortedBy};
 ghost use Rattle.index_v2.specs.PostingsLists.{row_of, list_of, values_of};
 
 use crate::IndexRefusal;
@@ -62,6 +63,7 @@ pub(crate) fn list_of(
     value: &str,
 ) -> Result<NumberList, IndexRefusal>
     requires { part.begin + length part.bytes.now < 2 ^ 64 }
+    ensures ascending { IsStrictlySortedBy compare_rows rows.now }
     ensures rise { IfOk result IsStrictlyIncreasing }
     ensures small { IfOk result (All (λ n. n < 2 ^ 32)) }
     ensures few { IfOk result (λ numbers. 4 * length numbers ≤ length part.entry.bytes.now) }

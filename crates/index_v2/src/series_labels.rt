@@ -1,13 +1,14 @@
 //! How the symbol numbers of a series become its labels, which have to be a label set. Where a number is refused those
 //! behind it are still read, since bytes that cannot be read are named before what they say.
 
-ghost use Rattle.std.specs.Prelude.{◌≡◌, ◌*◌, ◌<◌, ℕ, List, [], length, map, Ok, Err, MatchResult, slice_get};
+ghost use Rattle.std.specs.Prelude.{◌≡◌, ◌*◌, ◌<◌, ℕ, List, [], length, map, Ok, Err, Some, IfSome, MatchResult, slice_get};
 ghost use Rattle.std.specs.Option.{option_copied};
 ghost use Rattle.std.specs.Result.{result_map_both};
 ghost use Rattle.std.specs.Ordering.{is_lt};
 ghost use Rattle.base.specs.Reading.{Answers, Gives};
 ghost use Rattle.label_sets.specs.Labels.{compare_texts};
 ghost use Rattle.index_v2.specs.LentLabels.{as_label};
+ghost use Rattle.index_v2.specs.Ranks.{AreSymbols, name_before};
 ghost use Rattle.index_v2.specs.SeriesLabels.{label_of, texts_at, faulty_at};
 
 use crate::LentLabel;
@@ -15,19 +16,18 @@ use crate::symbols::Symbols;
 use index_parts::{PartRefusal, RawLabel, next_label};
 use wire_bytes::Cursor;
 
-/// Whether one text stands before another. Most names are told apart by their first bytes.
+/// Whether the name of a symbol number may stand behind that of another one, or first. Symbols ascend.
 #[inline(always)]
-fn is_before(one: &str, other: &str) -> bool
-    ensures { result ≡ is_lt (compare_texts one.now other.now) }
+fn may_stand_behind(before: Option<u64>, number: u64, name: &str) -> bool
+    ensures { (symbols : List (List ℕ)) → AreSymbols symbols
+        → slice_get symbols number ≡ Some name.now
+        → IfSome before (λ n. n < length symbols)
+        → result ≡ is_lt (compare_texts (name_before symbols before) name.now) }
 {
-    let (left, right) = (one.as_bytes(), other.as_bytes());
-    if left.is_empty() {
-        return !right.is_empty();
+    match before {
+        None => !name.is_empty(),
+        Some(before) => before < number,
     }
-    if right.is_empty() || left[0] == right[0] {
-        return one < other;
-    }
-    left[0] < right[0]
 }
 
 /// The texts of a label: the name is above the one before it, and the value is not empty.
@@ -35,13 +35,14 @@ fn is_before(one: &str, other: &str) -> bool
 #[tactic(auto, unfolding(crate::specs::SeriesLabels::label_of))]
 fn label_of<'a>(
     symbols: &Symbols<'a>,
-    before: &str,
+    before: Option<u64>,
     label: RawLabel,
 ) -> Result<LentLabel<'a>, PartRefusal>
-    ensures { Answers as_label result (label_of symbols.now before.now label) }
+    requires { IfSome before (λ n. n < length symbols.now) }
+    ensures { Answers as_label result (label_of symbols.now (name_before symbols.now before) label) }
 {
     let name = match symbols.get(label.name.number) {
-        Some(name) if is_before(before, name) => name,
+        Some(name) if may_stand_behind(before, label.name.number, name) => name,
         _ => return Err(PartRefusal::Unordered(label.name.place)),
     };
     match symbols.get(label.value.number) {
@@ -75,14 +76,14 @@ pub(crate) fn texts_of<'a, 'b>(
 {
     labels.clear();
     labels.reserve_exact(room_for(count, cursor.rest().len()))?;
-    let mut before = "";
+    let mut before = None;
     for place in 0..count {
         let (label, rest) = next_label(cursor)?;
         cursor = rest;
         match label_of(symbols, before, label) {
-            Ok(label) => {
-                labels.push(label)?;
-                before = label.name;
+            Ok(read) => {
+                labels.push(read)?;
+                before = Some(label.name.number);
             }
             Err(refusal) => return after_fault(refusal, count - place - 1, cursor),
         }

@@ -9,6 +9,7 @@ ghost use Rattle.index_parts.specs.SymbolsReading.{symbols_at};
 ghost use Rattle.index_parts.specs.IndexFile.{Holds};
 ghost use Rattle.index_parts.specs.Parts.{part_of, known, IsPartOf};
 ghost use Rattle.index_v2.specs.Opening.{held_at, symbols_section};
+ghost use Rattle.index_v2.specs.Ranks.{AreSymbols};
 
 use crate::IndexRefusal;
 use crate::opening::refused_in;
@@ -27,19 +28,35 @@ pub(crate) struct Symbols<'a> {
 
 impl<'a> Model for Symbols<'a> {
     ghost use Rattle.std.specs.Prelude.{List, [], ℕ, unwrap_or};
+    ghost use Rattle.index_v2.specs.Ranks.{AreSymbols};
 
     ghost Value = { List (List ℕ) };
 
     ghost view = { λ s. unwrap_or s.table [] };
+
+    ghost invariant = { λ s. AreSymbols (unwrap_or s.table []) };
 }
 
 impl<'a> Symbols<'a> {
     ghost use Rattle.std.specs.Prelude.{List, ℕ};
 
+    /// How many there are.
+    #[inline(always)]
+    pub(crate) fn len(&self) -> usize
+        ensures value { result ≡ length self.now }
+        ensures are { AreSymbols self.now }
+    {
+        match &self.table {
+            None => 0,
+            Some(table) => table.len(),
+        }
+    }
+
     /// The text of a symbol number.
     #[inline(always)]
     pub(crate) fn get(&self, number: u64) -> Option<&'a str>
-        ensures { option_copied result ≡ slice_get self.now number }
+        ensures value { option_copied result ≡ slice_get self.now number }
+        ensures are { AreSymbols self.now }
     {
         match &self.table {
             None => None,

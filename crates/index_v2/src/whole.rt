@@ -1,22 +1,26 @@
 //! The whole of an index, read and tested at once: every series, every postings list, and that the lists are just those
 //! of the series. A block of a shelf is shipped, and a block is merged, only where its index was read so.
 
-ghost use Rattle.std.specs.Prelude.{◌≡◌, ◌⊎◌, ◌+◌, ◌-◌, ◌^◌, ◌<◌, [], ℕ, All, length, zip, slice_get, None, Err, IfOk, IfSome, OnOk, MatchResult, if◌then◌else◌};
+ghost use Rattle.std.specs.Prelude.{◌≡◌, ◌⊎◌, ◌+◌, ◌-◌, ◌^◌, ◌<◌, [], ℕ, List, All, length, zip, slice_get, None, Err, IfOk, IfSome, OnOk, MatchResult, if◌then◌else◌};
 ghost use Rattle.base.specs.Reading.{Gives, Answers};
-ghost use Rattle.std.specs.List.Sorted.{IsStrictlyIncreasing};
+ghost use Rattle.index_parts.specs.Rows.{compare_rows};
+ghost use Rattle.std.specs.List.Sorted.{IsStrictlyIncreasing, IsStrictlySortedBy};
 ghost use Rattle.index_parts.specs.Parts.{part_of};
+ghost use Rattle.index_parts.specs.declared.index_series.IndexSeries.{IndexSeries};
+ghost use Rattle.index_v2.specs.Ranks.{AreSymbols, IsRanked, AreRanked, IsRowRank, AreRowRanks, TellsRow};
 ghost use Rattle.index_v2.specs.WholeReading.{present_at, may_stand_behind, behind_at, all_at, lists_at, differing_at, AreKept, whole_at};
 
 use crate::difference::{difference, is_kept, stray_at};
-use crate::opening::refused_of;
 use crate::postings::{POSTINGS, list_at, list_of};
+use crate::ranked::{RankedSeries, ranked_series};
+use crate::ranks::{RankList, Ranks, compare_lists};
+use crate::row_ranks::rows_ranks;
 use crate::sizes::{stands_behind, test_lists};
 use crate::symbols::{SYMBOLS, Symbols};
 use crate::{IndexRefusal, IndexSeriesList, LentSeries};
 use base::{List, NoMemory};
 use index_parts::{IndexPart, PartRefusal, Rows, SERIES_UNIT, Toc};
 use std::alloc::Global;
-use std::cmp::Ordering;
 use wire_bytes::NumberList;
 
 /// The number of the section of series.
@@ -43,41 +47,46 @@ fn absent_section(section: u8) -> IndexRefusal
 }
 
 /// Whether a series' labels may stand behind those of the last one before it.
-fn may_stand_behind(before: &[LentSeries<'_>], series: &LentSeries<'_>) -> bool
-    ensures { result ≡ may_stand_behind (slice_get before.now (length before.now - 1)) series.now }
+fn may_stand_behind(before: &[RankList], ranks: &[Ranks]) -> bool
+    ensures { (symbols : List (List ℕ)) (made : List IndexSeries) (series : IndexSeries)
+        → AreSymbols symbols → AreRanked symbols made before.now
+        → IsRanked symbols series ranks.now
+        → result ≡ may_stand_behind (slice_get made (length made - 1)) series }
 {
     match before.last() {
         None => true,
-        Some(last) => last.compare(series) == Ordering::Less,
+        Some(last) => compare_lists(last.members(), ranks).is_lt(),
     }
 }
 
 /// Reads the series of a number behind others, the last of which has another number.
-#[tactic(auto, unfolding(crate::specs::WholeReading::behind_at))]
 fn series_behind<'a>(
     alloc: Global,
     index: &[u8],
     symbols: &Symbols<'a>,
-    before: &[LentSeries<'a>],
+    before: &[RankList],
     last: Option<u64>,
     number: u64,
-) -> Result<LentSeries<'a>, IndexRefusal>
+) -> Result<RankedSeries<'a>, IndexRefusal>
     requires small { number < 2 ^ 32 }
     requires also { IfSome last (λ n. n < 2 ^ 32) }
-    ensures { Gives IndexRefusal.NoMemory
-        (λ series. series) result
-        (behind_at index.now symbols.now last (slice_get before.now (length before.now - 1)) number) }
+    ensures exact { (made : List IndexSeries) → AreRanked symbols.now made before.now
+        → Gives IndexRefusal.NoMemory (λ one. one.series) result
+        (behind_at index.now symbols.now last (slice_get made (length made - 1)) number) }
+    ensures ranked { IfOk result (λ one. IsRanked symbols.now one.series one.ranks) }
 {
-    match LentSeries::read(index, symbols, SERIES_UNIT * number, LentSeries::new(alloc)) {
-        Ok(series) if stands_behind(index, last, number) && may_stand_behind(before, &series) => {
-            Ok(series)
-        }
-        Ok(_) => Err(IndexRefusal::BadSeries(
-            number as u32,
-            PartRefusal::Unordered(SERIES_UNIT * number),
-        )),
-        Err(refusal) => Err(refused_of(number as u32, refusal)),
+    let one = ranked_series(alloc, index, symbols, number)?;
+    if stands_behind(index, last, number) && may_stand_behind(before, one.ranks.members()) {
+        return Ok(one);
     }
+    Err(IndexRefusal::BadSeries(number as u32, PartRefusal::Unordered(SERIES_UNIT * number)))
+}
+
+/// The listed series, and for each the ranks of its labels.
+#[derive(Drop)]
+pub(crate) struct AllSeries<'a> {
+    series: Vec<LentSeries<'a>>,
+    ranks: Vec<RankList>,
 }
 
 /// Reads the series of these numbers, which stand one behind the other and ascend by their labels.
@@ -86,20 +95,23 @@ pub(crate) fn all_series<'a>(
     index: &[u8],
     symbols: &Symbols<'a>,
     numbers: &[u64],
-) -> Result<Vec<LentSeries<'a>>, IndexRefusal>
+) -> Result<AllSeries<'a>, IndexRefusal>
     requires { All (λ n. n < 2 ^ 32) numbers.now }
-    ensures as_many { IfOk result (λ series. length series.items ≡ length numbers.now) }
-    ensures exact { Gives IndexRefusal.NoMemory (λ series. series.items) result
+    ensures as_many { IfOk result (λ all. length all.series.items ≡ length numbers.now) }
+    ensures exact { Gives IndexRefusal.NoMemory (λ all. all.series.items) result
         (all_at index.now symbols.now None None numbers.now) }
+    ensures ranked { IfOk result (λ all. AreRanked symbols.now all.series.items all.ranks.items) }
 {
-    let mut made = Vec::new(alloc);
+    let mut series = Vec::new(alloc);
+    let mut ranks = Vec::new(alloc);
     let mut last = None;
     for number in numbers {
-        let series = series_behind(alloc, index, symbols, made.as_slice(), last, *number)?;
-        made.push(series)?;
+        let one = series_behind(alloc, index, symbols, ranks.as_slice(), last, *number)?;
+        series.push(one.series)?;
+        ranks.push(one.ranks)?;
         last = Some(*number);
     }
-    Ok(made)
+    Ok(AllSeries { series, ranks })
 }
 
 /// The lists of rows up to the first that has a number of another series, and the place of that one. Where it stands, and
@@ -121,20 +133,38 @@ fn kept_or_none(alloc: Global, is_kept: bool, list: NumberList) -> NumberList
     }
 }
 
+/// The ranks of a row, which the row of all series has not.
+fn ranks_of_row(row: (&str, &str, u64), ranks: &Ranks) -> Option<Ranks>
+    ensures { (symbols : List (List ℕ)) → IsRowRank symbols
+        (record { name = row.entry.0.now; value = row.entry.1.now; offset = row.entry.2 }) ranks.now
+        → TellsRow symbols
+        (record { name = row.entry.0.now; value = row.entry.1.now; offset = row.entry.2 }) result }
+{
+    if row.0.is_empty() && row.1.is_empty() {
+        None
+    } else {
+        Some(*ranks)
+    }
+}
+
 /// Reads the postings lists of all rows.
 fn all_lists(
     alloc: Global,
     part: IndexPart<'_>,
     rows: &Rows<'_>,
+    ranks: &[Ranks],
     numbers: &[u64],
-    series: &[LentSeries<'_>],
+    series: &[RankList],
 ) -> Result<KeptLists, IndexRefusal>
     requires rise { IsStrictlyIncreasing numbers.now }
     requires as_many { length numbers.now ≡ length series.now }
+    requires one_each { length rows.now ≡ length ranks.now }
     requires fits { part.begin + length part.bytes.now < 2 ^ 64 }
     ensures few { OnOk result (length rows.now < 2 ^ 32) }
-    ensures read { MatchResult result (λ kept. AreKept (part_of part.entry) rows.now
-        (zip numbers.now series.now) kept.lists.items kept.stray)
+    ensures read { (symbols : List (List ℕ)) (listed : List IndexSeries)
+        → AreRowRanks symbols rows.now ranks.now → AreRanked symbols listed series.now
+        → MatchResult result (λ kept. AreKept (part_of part.entry) rows.now
+        (zip numbers.now listed) kept.lists.items kept.stray)
         (λ e. (e ≡ IndexRefusal.NoMemory) ⊎ (lists_at (part_of part.entry) rows.now ≡ Err e)) }
 {
     let mut lists = Vec::new(alloc);
@@ -145,7 +175,8 @@ fn all_lists(
             return Ok(KeptLists { lists, stray });
         };
         let list = list_at(alloc, part, row.2)?;
-        let (is_kept, next) = is_kept(stray, numbers, series, row, list.members(), guess);
+        let label = ranks_of_row(row, &ranks[place]);
+        let (is_kept, next) = is_kept(stray, numbers, series, label, list.members(), guess);
         lists.push(kept_or_none(alloc, is_kept, list))?;
         stray = stray_at(stray, is_kept, place);
         guess = next;
@@ -158,18 +189,29 @@ fn differing_place(
     alloc: Global,
     part: IndexPart<'_>,
     rows: &Rows<'_>,
+    symbols: &Symbols<'_>,
     numbers: &[u64],
-    series: &[LentSeries<'_>],
+    all: &AllSeries<'_>,
 ) -> Result<Option<usize>, IndexRefusal>
     requires rise { IsStrictlyIncreasing numbers.now }
-    requires as_many { length numbers.now ≡ length series.now }
+    requires as_many { length numbers.now ≡ length all.now.series.items }
+    requires ranked { AreRanked symbols.now all.now.series.items all.now.ranks.items }
+    requires ascending { IsStrictlySortedBy compare_rows rows.now }
     requires fits { part.begin + length part.bytes.now < 2 ^ 64 }
     ensures small { IfOk result (λ found. IfSome found (λ place. place < 2 ^ 32)) }
     ensures exact { Gives IndexRefusal.NoMemory (λ found. found) result
-        (differing_at (part_of part.entry) rows.now (zip numbers.now series.now)) }
+        (differing_at (part_of part.entry) rows.now (zip numbers.now all.now.series.items)) }
 {
-    let kept = all_lists(alloc, part, rows, numbers, series)?;
-    Ok(difference(rows, kept.stray, kept.lists.as_slice(), numbers, series))
+    let ranks = rows_ranks(alloc, symbols, rows)?;
+    let series = all.ranks.as_slice();
+    let kept = all_lists(alloc, part, rows, ranks.as_slice(), numbers, series)?;
+    Ok(difference(
+        ranks.as_slice(),
+        kept.stray,
+        kept.lists.as_slice(),
+        numbers,
+        series,
+    ))
 }
 
 /// Reads every series, and tests that the postings lists are exactly those of the series. The index lends the texts.
@@ -197,10 +239,10 @@ pub(crate) fn whole_lent<'a>(
 {
     let numbers = list_of(alloc, part, rows, "", "")?;
     test_present(toc, numbers.members())?;
-    let series = all_series(alloc, index, symbols, numbers.members())?;
+    let all = all_series(alloc, index, symbols, numbers.members())?;
     test_lists(toc, part, rows)?;
-    match differing_place(alloc, part, rows, numbers.members(), series.as_slice())? {
-        None => Ok(List::from_vec(series)),
+    match differing_place(alloc, part, rows, symbols, numbers.members(), &all)? {
+        None => Ok(List::from_vec(all.series)),
         Some(place) => Err(IndexRefusal::PostingsDiffer(place as u32)),
     }
 }

@@ -50,7 +50,7 @@ use Rattle.lifecycle_core.specs.TimeRules.{IsSyncedInTime, IsUploadedInTime}
 use Rattle.lifecycle_core.specs.Tasks.{End, PartTask, QueryTask, TaskRun, answered, ask_to, cleaned, compacted, not_asked, question_of, refused, stopped, sync_rules, synced, uploaded, without_view}
 use Rattle.lifecycle_core.proofs.journals.Standing.{parted, the_entry}
 use Rattle.lifecycle_core.proofs.answers.GivenParts.{Part, in_journal, made, of_parts, origin, view as part_view}
-use Rattle.lifecycle_core.proofs.answers.RunCalls.{calls_undamaged, honest_misses_nothing, misses_explained, rising, unbroken_misses_nothing}
+use Rattle.lifecycle_core.proofs.answers.RunCalls.{calls_undamaged, honest_misses_nothing, misses_explained, rising, rounds_explained, unbroken_misses_nothing}
 use Rattle.lifecycle_core.proofs.answers.Joining.{joined}
 use Rattle.lifecycle_core.proofs.answers.SoundCalls.{call_is_worth}
 use Rattle.lifecycle_core.proofs.blocks.Contents.{complete_holds, of_whole}
@@ -392,6 +392,7 @@ unbroken_complete setting journal ends lawful run of_bytes turns unbroken none =
 pub all_guaranteed : (setting : Setting) (journal : List Entry) (ends : List (List (List End))) → IsLawfulScript setting.script → IsRunOf setting journal ends → IsOfBytes journal → IsGuaranteed setting journal ends
 all_guaranteed setting journal ends lawful run of_bytes = record {
   explained = λ turns. misses_explained setting journal ends lawful run turns of_bytes;
+  compactions = rounds_explained setting journal ends lawful run of_bytes;
   faults = faults_shown setting journal ends run;
   undamaged = λ honest. undamaged setting journal ends lawful run honest of_bytes;
   sound = λ honest query given. is_sound setting journal ends lawful run honest of_bytes query given;
@@ -424,6 +425,7 @@ none_guaranteed setting = (
   tt,
   record {
     explained = λ turns end number came missing. absurd (no_end_came end came);
+    compactions = λ number came. absurd (no_end_came (compacted (compacting.Missing number)) came);
     faults = λ end number came fault. absurd (no_end_came end came);
     undamaged = λ honest end came. absurd (no_end_came end came);
     sound = λ honest query given. absurd (nothing_given setting query given);

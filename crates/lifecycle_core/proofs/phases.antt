@@ -16,6 +16,7 @@ pub mod RunsInLine
 pub mod Joined
 pub mod RunFronts
 pub mod Fronts
+pub mod Acted
 pub mod ActingRuns
 pub mod PhaseViews
 pub mod Stretches

@@ -111,6 +111,12 @@ AreMissesExplained setting journal ends =
     (end : End) (number : ℕ) → SomeCame ends end → IsMissing end number
     → IsExplainedBy setting (watched setting journal) (blamed_for end) journal number
 
+-- Where a compaction says so, the same: also where phases began before those before them were done.
+abbrev pub AreCompactionsExplained : Setting → List Entry → List (List (List End)) → Type 0
+AreCompactionsExplained setting journal ends =
+    (number : ℕ) → SomeCame ends (compacted (compacting.Missing number))
+    → IsExplainedBy setting (watched setting journal) IsBlamedInCompaction journal number
+
 -- No worker says that an object was missing.
 abbrev pub AreFound : List (List (List End)) → Type 0
 AreFound ends = (end : End) (number : ℕ) → SomeCame ends end → ¬ IsMissing end number

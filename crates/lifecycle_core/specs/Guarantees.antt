@@ -13,7 +13,7 @@ use Rattle.script_workers.specs.declared.phase.Phase.{Phase}
 use Rattle.script_workers.specs.declared.task.Task.{Task}
 use Rattle.script_workers.specs.declared.work.Work.TheVariants as work
 use Rattle.lifecycle_core.specs.Breaches.{IsUnbroken, Watch}
-use Rattle.lifecycle_core.specs.Causes.{AreFaultsShown, AreMissesExplained, AreUndamaged, AreWell, IsExplainedUnder}
+use Rattle.lifecycle_core.specs.Causes.{AreCompactionsExplained, AreFaultsShown, AreMissesExplained, AreUndamaged, AreWell, IsExplainedUnder}
 use Rattle.lifecycle_core.specs.Conducts.{CameTo}
 use Rattle.lifecycle_core.specs.Phases.{IsInTurn, IsRunOf}
 use Rattle.lifecycle_core.specs.Quiet.{DeletesNothing}
@@ -138,14 +138,15 @@ pub record IsSoundCall (setting : Setting) (watch : Watch) (journal : List Entry
       → (series : List Series) (sources : List ℕ) → end ≡ Some (ended.Answer series sources)
       → (ulid : ℕ) → IsSettled setting journal rules used ulid → Contains sources ulid
 
--- What is guaranteed of a run that came to these ends. A failed call is shown by the journal, whatever the bucket does; and where each
--- phase was done before the next one began, so that gateways used their last views, a missing object is explained by it. Where the
--- bucket is honest, nothing is found damaged, each answered query is sound, and each complete block holds what its sources hold. And
--- where no call failed and each phase was done before the next one began, every task ends well if no entry breaks a rule, or if the
--- bucket is honest and nothing is deleted.
+-- What is guaranteed of a run that came to these ends. Whatever the bucket does, a failed call is shown by the journal, and an object
+-- that a compaction misses is explained by it; so is one that a query misses, where each phase was done before the next one began, so
+-- that gateways used their last views. Where the bucket is honest, nothing is found damaged, each answered query is sound, and each
+-- complete block holds what its sources hold. And where no call failed and each phase was done before the next one began, every task
+-- ends well if no entry breaks a rule, or if the bucket is honest and nothing is deleted.
 pub record IsGuaranteed (setting : Setting) (journal : List Entry)
     (ends : List (List (List End))) : Type 0 where
   pub explained : IsInTurn setting ends → AreMissesExplained setting journal ends
+  pub compactions : AreCompactionsExplained setting journal ends
   pub faults : AreFaultsShown journal ends
   pub undamaged : IsHonest journal → AreUndamaged ends
   pub sound : IsHonest journal → (query : Answered) → IsGiven setting ends query

@@ -30,7 +30,7 @@ ghost use Rattle.querier.specs.declared.asking.Ask.{Ask};
 ghost use Rattle.lifecycle_core.specs.Setting.{Setting};
 ghost use Rattle.script_core.specs.Lawful.{IsLawfulScript};
 ghost use Rattle.script_core.specs.Workers.{workers_of};
-ghost use Rattle.lifecycle_core.specs.Acting.{IsActing};
+ghost use Rattle.lifecycle_core.specs.Acting.{HasActors, IsActing, IsNumbering};
 ghost use Rattle.lifecycle_core.specs.Cuts.{IsCutBehind};
 ghost use Rattle.moment_core.specs.declared.moment.Moment.{Moment};
 ghost use Rattle.moment_core.specs.declared.rules.Rules.{Rules};
@@ -42,9 +42,9 @@ ghost use Rattle.cleaner.specs.declared.clean.CleanEnd.{CleanEnd};
 ghost use Rattle.lifecycle_core.specs.PutBlocks.{WasPutBefore};
 ghost use Rattle.lifecycle_core.specs.Quiet.{CompactsNothing, DeletesNothing};
 ghost use Rattle.lifecycle_core.specs.Breaches.{HoldsSamples, IsBreach, IsCallRead, IsCompactorSeat, IsLie, IsReadSince, IsSeatOf, IsSyncIn, IsUnbroken, IsViewAt, NoViewBetween, Rule, read_key, watched_call};
-ghost use Rattle.lifecycle_core.specs.Causes.{AreFound, AreMissesExplained, AreWell, IsExplained, IsExplainedUnder};
+ghost use Rattle.lifecycle_core.specs.Causes.{AreCompactionsExplained, AreFound, AreMissesExplained, AreWell, IsExplained, IsExplainedUnder};
 ghost use Rattle.lifecycle_core.specs.Completed.{IsSettled};
-ghost use Rattle.lifecycle_core.specs.Conducts.{CameTo};
+ghost use Rattle.lifecycle_core.specs.Conducts.{CameTo, working};
 ghost use Rattle.lifecycle_core.specs.Guarantees.{Answered, IsGiven, IsGuaranteed, IsSoundCall, LeavesNoneOut};
 ghost use Rattle.lifecycle_core.specs.Holdings.{Use};
 ghost use Rattle.lifecycle_core.specs.Shipped.{IsShippedUnder};
@@ -53,8 +53,10 @@ ghost use Rattle.lifecycle_core.specs.InLine.{IsRunInLine};
 ghost use Rattle.lifecycle_core.specs.Phases.{IsFinished, IsInTurn, IsLawfulJournal, IsRunOf, by_workers};
 ghost use Rattle.lifecycle_core.specs.QueriesAsked.{IsQueryAt};
 ghost use Rattle.lifecycle_core.specs.Tasks.{End, answered, ask_to, sync_rules};
-ghost use Rattle.lifecycle_core.specs.Ways.{AreFinished, BeginsPhase};
+ghost use Rattle.lifecycle_core.specs.Ways.{AreFinished, BeginsPhase, PhasesRun};
 ghost use Rattle.lifecycle_core.specs.TimeRules.{IsCompactionReadInTime, IsMarkedInTime, IsReadInTime, IsSyncedInTime, IsUploadedInTime};
+
+use crate::Working;
 
 /// A law: a run that was broken off before its first entry is a run of every script.
 pub fn no_entry_is_lawful()
@@ -74,6 +76,17 @@ pub fn runs_in_line_are_lawful()
     ensures { (setting : Setting) (journal : List Entry) (ends : List (List End))
         → IsLawfulScript setting.script → IsRunInLine setting journal ends
         → IsLawfulJournal setting journal }
+{}
+
+/// A law: whoever works on a script in whatever way leaves an acting journal, if its uploads, compactions and cleanings are done in
+/// this way, under some numbering of their seats, and all others do nothing but read.
+pub fn conducts_are_acting<W: Working>()
+    ensures { (setting : Setting) (seats : ℕ → ℕ) (journal : List Entry)
+        (before : ℕ → W.State) (ends : List (List (List W.End)))
+        → IsNumbering setting seats → HasActors setting seats (W.conduct setting)
+        → IsJournal setting.script.rules.tick.ms journal
+        → PhasesRun (working (W.conduct setting)) 0 before setting.script.phases journal ends
+        → IsActing setting journal }
 {}
 
 /// A law: every lawful journal of a lawful script is acting.
@@ -231,12 +244,16 @@ pub fn fronts_are_lawful()
         → IsLawfulJournal setting (front ++ others) → IsLawfulJournal setting front }
 {}
 
-/// A law: where each phase was done before the next one began, and a series call or a compaction says that an object was missing,
-/// the journal shows why, whatever the bucket does.
+/// A law: where a compaction says that an object was missing, the journal shows why, whatever the bucket does. Where each phase was
+/// done before the next one began, the same is true of a series call.
 pub fn misses_are_explained()
-    ensures { (setting : Setting) (journal : List Entry) (ends : List (List (List End)))
+    ensures every { (setting : Setting) (journal : List Entry) (ends : List (List (List End)))
         → IsLawfulScript setting.script → IsRunOf setting journal ends → IsInTurn setting ends
         → IsOfBytes journal → AreMissesExplained setting journal ends }
+    ensures compactions { (setting : Setting) (journal : List Entry)
+        (ends : List (List (List End)))
+        → IsLawfulScript setting.script → IsRunOf setting journal ends
+        → IsOfBytes journal → AreCompactionsExplained setting journal ends }
 {}
 
 /// A law: where the bucket is honest, and no line of the script is a cleaning, no call and no compaction misses an object.

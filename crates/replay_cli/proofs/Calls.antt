@@ -1,5 +1,5 @@
 -- What a call leaves that read a script and ran it, whatever the way.
-use Rattle.std.proofs.Common.{◌≡◌, ◌≢◌, ◌⊎◌, inr, ℕ, ◌+◌, ◌<◌, List, [], Option, None, Some, refl, sym, ◌∙◌, ap, subst}
+use Rattle.std.proofs.Common.{◌≡◌, ◌≢◌, ◌⊎◌, inl, inr, ℕ, ◌+◌, ◌<◌, List, [], Option, None, Some, refl, sym, ◌∙◌, ap, subst}
 use Rattle.std.specs.Prelude.{IfSome, IsSomeAnd, is_some, option_map}
 use Rattle.bucket_core.specs.Asking.{Call}
 use Rattle.bucket_core.specs.Contents.{nothing}
@@ -30,8 +30,8 @@ use Rattle.call_verdicts.proofs.HandedBack.{if_map}
 use Rattle.call_verdicts.proofs.Noted.{noted_as}
 use Rattle.call_verdicts.proofs.ShelfReads.{read_for}
 use Rattle.call_verdicts.proofs.Unfailed.{not_short, short_map, short_of, unfailed_ended}
-use Rattle.call_verdicts.proofs.Verdicts.{before_reading, behind_reading, if_nothing, run_weaker, worked_run}
-use Rattle.replay_cli.specs.Calls.{HasOpened, IsEndOfRun, IsPrepared, Leaves, around_run}
+use Rattle.call_verdicts.proofs.Verdicts.{before_reading, behind_reading, if_nothing, is_named, run_weaker, worked_run}
+use Rattle.replay_cli.specs.Calls.{HasOpened, IsEndOfRun, IsPrepared, Leaves, around_run, run_names}
 use Rattle.replay_cli.specs.Ways.{HasRun, MayRun, Way, beside, in_line, is_done_by, tells_by}
 use Rattle.replay_cli.specs.declared.preparing.Prepared.{Prepared}
 use Rattle.replay_cli.proofs.NoneInPhases.{none_in_phases}
@@ -69,21 +69,24 @@ module _ {B F : Type 0} (o : Outside B F) (bucket : List ℕ) (word : Option (Li
   leaves : (way : Way) (setting : Setting) (old new : WorldView B) (note : Option (RunNote B)) (shelf : Option F) (v : Verdict) (ended : Ended B F)
       → IsLawfulScript setting.script → HasOpened o bucket word setting.script old ended.shelf → old.journal ≡ [] → WasAsked (calls_asked o.site.store) for_opening old.bucket
       → BehindReading v (Some new.journal) (IfSome (files_of o.site.files o.site.before word ended.shelf) (IsOfShelf setting))
-      → IsRun (is_done_by way) setting (Some nothing) ((around_run way o bucket word ended).site_failed ⊎ (around_run way o bucket word ended).shelf_failed) (Some new.journal) v
+      → IsRun (is_done_by way) setting (Some nothing) ((around_run way o (run_names bucket word) ended).site_failed ⊎ (around_run way o (run_names bucket word) ended).shelf_failed) (Some new.journal) v
       → IfShort v (IfSome ended.shelf (λ s. (o.site.files s).faults ≡ 0)) → (failed_count new.journal ≡ 0 → (o.site.store new.bucket).faults ≡ (o.site.store old.bucket).faults)
       → (v ≢ NoMemory → (before : List Call) → IsAllAsked o.site.store before old → IsAllAsked o.site.store before new)
-      → IsNoted (tells_by way) o.site.store v (Some new.journal) (Some new.bucket) note → IsEndOfRun o.site.store v new note shelf ended → Leaves way o bucket word ended
+      → IsNoted (tells_by way) o.site.store v (Some new.journal) (Some new.bucket) note → IsEndOfRun o.site.store v new note shelf ended → Leaves way o (run_names bucket word) ended
   leaves way setting old new note shelf v ended lawful is fresh was behind run calm unfailed all noted end =
       let verdict = ended.conclusion.verdict in
       let journal = ended.conclusion.journal in
       let store = ended.conclusion.store in
       record {
-        cause = worked_run (around_run way o bucket word ended) setting new.journal v verdict is.read lawful (ap is_some end.store, is.named) is.empty end.journal end.verdict behind run;
-        short = not_short verdict v _ end.verdict (short_map v _ _ (λ fresh. (is.source, is.site, unfailed_ended o.site.store old new journal store unfailed is.unfailed end.journal end.store, fresh)) calm);
+        cause = (
+          inl (is_named bucket (Some bucket) refl, refl, worked_run (around_run way o (run_names bucket word) ended) setting new.journal v verdict is.read lawful (ap is_some end.store, is.named) is.empty end.journal end.verdict behind run),
+          not_short verdict v _ end.verdict (short_map v _ _ (λ fresh. (is.source, is.site, unfailed_ended o.site.store old new journal store unfailed is.unfailed end.journal end.store, fresh)) calm),
+        );
         handed = handed_some o.site.before.buckets o.site.after.buckets store new.bucket end.store is.buckets;
         kept = ap is_some end.journal ∙ sym (ap is_some end.store);
         back = end.back;
         untouched = if_nothing (λ k. IsUntouched o.site.store k journal store) (next_bucket o.site.before bucket) is.empty end.untouched;
+        closed = λ none. absurd (cc (none));
         asked_bucket = λ never. ended_asked o.site.store old new verdict journal store fresh was (all (λ same. never (end.verdict ∙ same))) end.journal end.store;
         noted = noted_as (tells_by way) o.site.store v verdict new journal store note ended.note end.verdict end.journal end.store end.note noted;
         shelf = is.shelf;
@@ -97,7 +100,7 @@ module _ {B F : Type 0} (o : Outside B F) (bucket : List ℕ) (word : Option (Li
   may_run p members same is = subst (λ (own : List ShelfBlock). MayRun o.site.store p.script own p.world) (sym same) is.may
 
   pub ran : (way : Way) (p : Prepared B F) (members : List ShelfBlock) (new : WorldView B) (note : Option (RunNote B)) (v : Verdict) (ended : Ended B F) → members ≡ p.blocks → IsPrepared o bucket word p
-      → HasRun way o.site.store p.script members p.world v new note → IsEndOfRun o.site.store v new note p.shelf ended → Leaves way o bucket word ended
+      → HasRun way o.site.store p.script members p.world v new note → IsEndOfRun o.site.store v new note p.shelf ended → Leaves way o (run_names bucket word) ended
   ran way p members new note v ended same is has end =
       let setting = setting_by p.script p.blocks in
       let run = subst (λ (own : List ShelfBlock). HasRun way o.site.store p.script own p.world v new note) same has in
@@ -111,11 +114,11 @@ module _ {B F : Type 0} (o : Outside B F) (bucket : List ℕ) (word : Option (Li
   -- reading the shelf was broken off
   pub unread : (way : Way) (script : Script) (world new : WorldView B) (note : Option (RunNote B)) (before after : Option F) (v : Verdict) (ended : Ended B F) → new ≡ world → note ≡ None → IsLawfulScript script → HasOpened o bucket word script world after
       → world.journal ≡ [] → WasAsked (calls_asked o.site.store) for_opening world.bucket → IfSome before (λ s. (o.site.files s).faults ≡ 0) → IsBrokenOff (HasFailed o.site.files before after) v → IfShort v (IfSome after (λ s. (o.site.files s).faults ≡ 0))
-      → IsEndOfRun o.site.store v new note after ended → Leaves way o bucket word ended
+      → IsEndOfRun o.site.store v new note after ended → Leaves way o (run_names bucket word) ended
   unread way script world new note before after v ended same none lawful is fresh was calm broken short end =
       let setting = setting_of script in
       let of_call : (P : Option F → Type 0) → P after → P ended.shelf = λ P holds. subst P (sym end.shelf) holds in
-      let fails : HasFailed o.site.files before after → (around_run way o bucket word ended).site_failed ⊎ (around_run way o bucket word ended).shelf_failed =
+      let fails : HasFailed o.site.files before after → (around_run way o (run_names bucket word) ended).site_failed ⊎ (around_run way o (run_names bucket word) ended).shelf_failed =
       λ failed. inr (inr (of_call (λ shelf. IsSomeAnd shelf (λ s. 0 < (o.site.files s).faults)) (failed_since o.site.files before after calm failed))) in
       leaves way setting world world None after v ended lawful (of_call (HasOpened o bucket word script world) is) fresh was
       (before_reading v (Some world.journal) (IfSome (files_of o.site.files o.site.before word ended.shelf) (IsOfShelf setting)) (is_early v broken) fresh)

@@ -1,7 +1,8 @@
 -- What a run of the generated day comes to.
-use Rattle.std.proofs.Common.{◌≡◌, ℕ, Bool, true, false, List, [], ◌++◌, length, take, refl, sym, ◌∙◌, ap, subst, inl}
+use Rattle.std.proofs.Common.{◌≡◌, ℕ, Bool, true, false, List, [], ◌++◌, length, take, refl, sym, ◌∙◌, ap, subst, inl, inr}
 use Rattle.std.specs.Prelude.{Option, Some, None, Result, Ok, Err}
 use Rattle.std.specs.List.{list_all}
+use Rattle.bucket_core.specs.MemoryBucket.{bucket_told}
 use Rattle.bucket_core.specs.Told.{BucketTold}
 use Rattle.bucket_core.specs.declared.memory_bucket.MemoryBucket.{MemoryBucket}
 use Rattle.world_core.specs.Keeping.{IsFull}
@@ -12,6 +13,7 @@ use Rattle.world_core.specs.declared.entry.Entry.{Entry}
 use Rattle.world_core.proofs.Growing.{Each-none}
 use Rattle.script_core.specs.Lawful.{IsLawfulScript}
 use Rattle.script_core.specs.declared.script.Script.{Script}
+use Rattle.call_verdicts.specs.lifecycle_core.specs.Setting.{setting_of}
 use Rattle.call_verdicts.specs.script_running.specs.Outcomes.{Outcome, is_as_asked}
 use Rattle.call_verdicts.specs.script_running.specs.Shelves.{setting_by}
 use Rattle.call_verdicts.specs.script_running.specs.Tasks.{is_full_came}
@@ -32,7 +34,8 @@ use Rattle.call_verdicts.specs.Noted.{IsNoted, met, tells_full}
 use Rattle.call_verdicts.proofs.HandedBack.{true_of}
 use Rattle.call_verdicts.specs.declared.verdict.Verdict.{Verdict}
 use Rattle.call_verdicts.specs.declared.verdict.Verdict.TheVariants as verdict
-use Rattle.replay_cli.specs.Days.{EndsDay, IsBareFull, IsDay, IsDayNoted, IsDayRun}
+use Rattle.replay_cli.specs.Days.{EndsDay, EndsDayCalmly, IsBareFull, IsDay, IsDayNoted, IsDayRun}
+use Rattle.replay_cli.proofs.Calm.{limit_met}
 use Rattle.replay_cli.proofs.WholeRuns.{all_told, full_run, whole_run_of}
 
 -- the summary of a whole day does not tell that the journal is full
@@ -96,6 +99,14 @@ module _ (script : Script) (lawful : IsLawfulScript script) (gateways : List Sig
       let setting = setting_by script [] in
       subst (IsDay script journal) (sym (short refl)) (run_in_line AreTallied setting gateways journal tally (Err broken.NoMemory) kept came, guaranteed_run setting journal lawful kept bytes (short_run AreTallied setting came.0 journal tally came.1))
 
+-- a trusted day ends as asked, or some task met a limit
+pub calm_day : (script : Script) (entries : List Entry) (v : Verdict) → failed_count entries ≡ 0 → IsDay script entries v → EndsDayCalmly script entries v
+calm_day script entries (verdict.Report text true) none day = λ trusted room. inl refl
+calm_day script entries (verdict.Report text false) none day = λ trusted room. inr (inr (refl, day.1.told, limit_met (setting_of script) day.1.told entries trusted none day.1.run))
+calm_day script entries (verdict.Full lines) none day = λ trusted room. absurd (room day.2.full)
+calm_day script entries verdict.NoMemory none day = λ trusted room. inr (inl refl)
+calm_day script entries other none day = absurd day
+
 -- a day over a journal that is told by another name
 pub ends_over : {P : Type 0} (script : Script) (one other : List Entry) (tally : Tally) (v : Verdict) → one ≡ other → (P → EndsDay script one tally v) → P → EndsDay script other tally v
 ends_over script one other tally v same ends holds = subst (λ (es : List Entry). EndsDay script es tally v) same (ends holds)
@@ -116,7 +127,7 @@ day_full_told script journal tally (Err broken.NoMemory) v whole filled short = 
 pub unnoted_day : (entries : List Entry) → entries ≡ [] → IsDayNoted verdict.NoMemory (Some entries) None
 unnoted_day entries none = (none, refl, tt)
 
-pub day_noted : (v : Verdict) (entries : List Entry) (bucket : MemoryBucket) (note : Option (RunNote MemoryBucket)) → IsNoted met (λ (b : MemoryBucket). None) v (Some entries) (Some bucket) note → IsDayNoted v (Some entries) note
+pub day_noted : (v : Verdict) (entries : List Entry) (bucket : MemoryBucket) (note : Option (RunNote MemoryBucket)) → IsNoted met bucket_told v (Some entries) (Some bucket) note → IsDayNoted v (Some entries) note
 day_noted v entries bucket None noted = (noted.0, noted.1, tt)
 day_noted v entries bucket (Some n) noted = record { journal_is = noted.journal_is; store_is = refl; full = noted.full; short = noted.short; asks = noted.asks }
 

@@ -6,22 +6,26 @@ use Rattle.world_core.specs.Worlds.{WorldView}
 use Rattle.script_core.specs.declared.script.Script.{Script}
 use Rattle.run_notes.specs.declared.run_note.RunNote.{RunNote}
 use Rattle.call_verdicts.specs.script_running.specs.Shelves.{setting_by}
-use Rattle.call_verdicts.specs.Asked.{IsBucketAsked, WasReadFor}
+use Rattle.call_verdicts.specs.Asked.{IsBroken, IsBucketAsked, WasAskedFor, WasReadFor}
 use Rattle.call_verdicts.specs.Checks.{files_of}
-use Rattle.call_verdicts.specs.Kept.{HoldsNothing, IsHandedBack, IsHandedOut, IsShelfOf, IsUntouched}
+use Rattle.call_verdicts.specs.Kept.{AsksNoBucket, HoldsNothing, IsHandedBack, IsHandedOut, IsShelfOf, IsUntouched, told_of}
 use Rattle.call_verdicts.specs.Noted.{IsNoted}
-use Rattle.call_verdicts.specs.Outside.{Outside, names}
+use Rattle.call_verdicts.specs.Outside.{Names, Outside, names}
 use Rattle.call_verdicts.specs.ShelfReads.{IsOfShelf}
-use Rattle.call_verdicts.specs.Verdicts.{Around, IfShort, IsScriptRead, IsWorked, around_call}
+use Rattle.call_verdicts.specs.Verdicts.{Around, IsCaused, IsScriptRead, around_call}
 use Rattle.call_verdicts.specs.declared.conclusion.Ended.{Ended}
 use Rattle.call_verdicts.specs.declared.verdict.Verdict.{Verdict}
 use Rattle.call_verdicts.specs.declared.verdict.Verdict.TheVariants as verdict
 use Rattle.replay_cli.specs.Ways.{MayRun, Way, is_done_by, tells_by}
 use Rattle.replay_cli.specs.declared.preparing.Prepared.{Prepared}
 
--- what is told of the world around a call that does tasks in this way, by the names of its bucket and its shelf
-abbrev pub around_run : {B F : Type 0} → Way → Outside B F → List ℕ → Option (List ℕ) → Ended B F → Around
-around_run way o bucket word ended = around_call (is_done_by way) o (names (Some bucket) word None) ended.conclusion.store ended.shelf ended.conclusion.journal
+-- what the words of a run name
+abbrev pub run_names : List ℕ → Option (List ℕ) → Names
+run_names bucket word = names (Some bucket) word None
+
+-- what is told of the world around a call that does tasks in this way, and whose words name these
+abbrev pub around_run : {B F : Type 0} → Way → Outside B F → Names → Ended B F → Around
+around_run way o of ended = around_call (is_done_by way) o of ended.conclusion.store ended.shelf ended.conclusion.journal
 
 -- The script is read, all that the words name was opened, and the shelf was asked for its blocks alone. Nothing had failed before
 -- they were read.
@@ -53,21 +57,20 @@ pub record IsEndOfRun {B F : Type 0} (tells : B → BucketTold) (v : Verdict) (w
   pub back : IsHandedBack tells ended.conclusion.journal ended.conclusion.store
   pub untouched : IsUntouched tells nothing ended.conclusion.journal ended.conclusion.store
 
--- A call that read a script and ran it in this way, or ended before, comes to this, and has its cause. Want of memory is told only
--- where nothing failed but what the journal shows.
-pub record Leaves {B F : Type 0} (way : Way) (o : Outside B F) (bucket : List ℕ) (word : Option (List ℕ)) (ended : Ended B F) : Type 0 where
-  pub cause : IsWorked (around_run way o bucket word ended) ended.conclusion.verdict
-  pub short : IfShort ended.conclusion.verdict (around_run way o bucket word ended).unfailed
+-- A call whose words name these, and which does tasks in this way, comes to this before it says a word, and has its cause.
+pub record Leaves {B F : Type 0} (way : Way) (o : Outside B F) (of : Names) (ended : Ended B F) : Type 0 where
+  pub cause : IsCaused (around_run way o of ended) ended.conclusion.verdict
   pub handed : IsHandedOut o.site.before.buckets o.site.after.buckets ended.conclusion.store
   pub kept : is_some ended.conclusion.journal ≡ is_some ended.conclusion.store
   pub back : IsHandedBack o.site.store ended.conclusion.journal ended.conclusion.store
-  pub untouched : IfSome (next_bucket o.site.before bucket) (λ c. IsUntouched o.site.store c ended.conclusion.journal ended.conclusion.store)
+  pub untouched : IfSome (told_of (next_bucket o.site.before) of.bucket) (λ c. IsUntouched o.site.store c ended.conclusion.journal ended.conclusion.store)
+  pub closed : of.bucket ≡ None → AsksNoBucket o.site.before o.site.after
   pub asked_bucket : ended.conclusion.verdict ≢ verdict.NoMemory → IsBucketAsked o.site.store ended.conclusion.verdict ended.conclusion.journal ended.conclusion.store
   pub noted : IsNoted (tells_by way) o.site.store ended.conclusion.verdict ended.conclusion.journal ended.conclusion.store ended.note
-  pub shelf : IsShelfOf o.site.files word o.site.before o.site.after ended.shelf
-  pub asked : IfSome ended.shelf (WasReadFor o.site.files o.source.left)
+  pub shelf : IsShelfOf o.site.files of.shelf o.site.before o.site.after ended.shelf
+  pub asked : IfSome ended.shelf (WasAskedFor o.site.files (files_of o.site.files o.site.before of.shelf ended.shelf) o.source.left of.block (IsBroken ended.conclusion.verdict))
 
 -- A run can begin. Or the call has ended before, in whichever way the tasks were to be done.
 abbrev pub Prepares : {B F : Type 0} → Outside B F → List ℕ → Option (List ℕ) → Result (Prepared B F) (Ended B F) → Type 0
 Prepares o bucket word (Ok ready) = IsPrepared o bucket word ready
-Prepares o bucket word (Err ended) = (way : Way) → Leaves way o bucket word ended
+Prepares o bucket word (Err ended) = (way : Way) → Leaves way o (run_names bucket word) ended

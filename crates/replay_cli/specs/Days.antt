@@ -2,6 +2,7 @@
 use Rattle.std.specs.Prelude.{◌≡◌, ◌⊎◌, ℕ, Bool, List, [], ◌++◌, Option, Some, None, IsSomeAnd, option_map}
 use Rattle.bucket_core.specs.MemoryBucket.{bucket_told}
 use Rattle.bucket_core.specs.declared.memory_bucket.MemoryBucket.{MemoryBucket}
+use Rattle.world_core.specs.Keeping.{IsFull}
 use Rattle.world_core.specs.Standing.{IsHonest}
 use Rattle.world_core.specs.Worlds.{IsOfBytes, failed_count}
 use Rattle.world_core.specs.declared.entry.Entry.{Entry}
@@ -22,9 +23,11 @@ use Rattle.script_workers.specs.declared.task.Task.{Task}
 use Rattle.call_verdicts.specs.script_running.specs.Outcomes.{Outcome}
 use Rattle.run_notes.specs.declared.run_note.RunNote.{RunNote}
 use Rattle.call_verdicts.specs.Noted.{IsNoted, met}
-use Rattle.call_verdicts.specs.Verdicts.{Around, IfShort, IsCaused, IsFullRun, IsWholeRun}
+use Rattle.call_verdicts.specs.Verdicts.{Around, IfShort, IsFullRun, IsTrusted, IsWholeRun, status_of}
+use Rattle.call_verdicts.specs.declared.status.Status.TheVariants as status
 use Rattle.call_verdicts.specs.declared.verdict.Verdict.{Verdict}
 use Rattle.call_verdicts.specs.declared.verdict.Verdict.TheVariants as verdict
+use Rattle.replay_cli.specs.CalmCalls.{MeetsLimit}
 
 -- ---- the run
 
@@ -44,13 +47,23 @@ IsDay script entries (verdict.Full lines) = IsInLine (setting_of script) entries
 IsDay script entries verdict.NoMemory = IsInLine (setting_of script) entries × IsGuaranteedJournal (setting_of script) entries
 IsDay script entries other = ⊥
 
+-- Where the journal is trusted for the day's script, and not full, the day ends as asked, unless there is no memory, or a task met a
+-- limit. No operation of a day fails.
+abbrev pub EndsDayCalmly : Script → List Entry → Verdict → Type 0
+EndsDayCalmly script entries v =
+    IsTrusted (setting_of script) entries → ¬ IsFull entries
+    → (status_of v ≡ status.Done) ⊎ (v ≡ verdict.NoMemory)
+    ⊎ ((status_of v ≡ status.ActivityFailed) × (told : List ℕ) × MeetsLimit (setting_of script) told entries)
+
 -- The run of the day with this number comes to the verdict: of the script that the day's text spells, over a bucket that tells what it
 -- holds and never fails. Where memory is wanted, that may be before the script is made.
 pub record IsDayRun (number : ℕ) (entries : List Entry) (v : Verdict) : Type 0 where
   pub honest : IsHonest entries
   pub bytes : IsOfBytes entries
   pub unfailed : failed_count entries ≡ 0
-  pub came : ((v ≡ verdict.NoMemory) × (entries ≡ [])) ⊎ ((script : Script) × Spells (day_text number) script × IsLawfulScript script × IsDay script entries v)
+  pub came :
+      ((v ≡ verdict.NoMemory) × (entries ≡ []))
+      ⊎ ((script : Script) × Spells (day_text number) script × IsLawfulScript script × IsDay script entries v × EndsDayCalmly script entries v)
 
 -- The note of a day's run is of the journal that is handed back, and of the answers by which the call comes to its verdict. The bucket
 -- does not tell what it was asked, and is not handed back.
@@ -65,11 +78,6 @@ pub record IsDayDone (number : ℕ) (around : Around) (v : Verdict) : Type 0 whe
   pub unread : around.left ≡ around.text
   pub unasked : around.unasked
   pub short : IfShort v around.unfailed
-
--- Why a call comes to a verdict, by the number of a generated day, where its words name one.
-abbrev pub IsToolCaused : Option ℕ → Around → Verdict → Type 0
-IsToolCaused (Some number) around v = IsDayDone number around v
-IsToolCaused None around v = IsCaused around v
 
 -- ---- parts
 

@@ -1,9 +1,11 @@
+pub mod CalmCalls
 pub mod Calls
 pub mod Days
 pub mod Endings
 pub mod Sharing
 pub mod TextParts
 pub mod InPhases
+pub mod Promises
 pub mod ToldAnswers
 pub mod Ways
 pub use Rattle.call_verdicts

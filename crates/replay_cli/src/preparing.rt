@@ -6,7 +6,9 @@ ghost use Rattle.replay_cli.specs.Calls.{IsEndOfRun, Prepares};
 
 use bucket_core::{Bucket, Site, Source};
 use call_verdicts::script_running::ShelfBlockList;
-use call_verdicts::{CheckWay, Conclusion, Ended, Ready, Verdict, read_and_open, read_blocks};
+use call_verdicts::{
+    CheckWay, Conclusion, Ended, Named, Ready, Verdict, read_and_open, read_blocks,
+};
 use run_notes::Finished;
 use script_core::Script;
 use std::alloc::Global;
@@ -25,8 +27,7 @@ pub(crate) struct Prepared<B: Bucket, F> {
 /// Reads the script and the blocks that it takes from the shelf, which are checked in this way, and opens the bucket; or ends the call.
 pub(crate) fn prepare<S: Site, R: Source, W: CheckWay>(
     alloc: Global,
-    bucket: &str,
-    shelf: &str,
+    named: &Named<'_>,
     site: &mut S,
     script: &mut R,
     way: &W,
@@ -34,9 +35,9 @@ pub(crate) fn prepare<S: Site, R: Source, W: CheckWay>(
     requires { W.can_check way.now }
     ensures { Prepares (outside (R.told script.old) (R.told script.new)
         (site_call (S.told site.old) (S.told site.new) S.Store.told S.Files.told))
-        bucket.now (named_by shelf.now) result }
+        named.now.bucket.now (named_by named.now.shelf.now) result }
 {
-    match read_and_open(alloc, bucket, shelf, site, script) {
+    match read_and_open(alloc, named.bucket, named.shelf, site, script) {
         Ok(
             Ready {
                 script,

@@ -57,12 +57,12 @@ pub(crate) fn run_with_threads<B: Bucket + Send, G: Gate + Sync, T: Threads + Wa
 }
 
 /// Does the phases with their workers in threads, and puts the lines of answers' series in this way.
-fn run_telling<B: Bucket + Send, G: Gate + Sync, T: Threads + Wait + Sync, W: SeriesWay + Drop>(
+fn run_telling<'a, B: Bucket + Send, G: Gate + Sync, T: Threads + Wait + Sync, W: SeriesWay + Drop>(
     rt: &T,
     alloc: Global,
     gate: &G,
-    script: &Script,
-    shelf: &[ShelfBlock],
+    script: &'a Script,
+    shelf: &'a [ShelfBlock],
     world: World<B>,
     way: W,
 ) -> (Verdict, Finished<B>)
@@ -73,7 +73,8 @@ fn run_telling<B: Bucket + Send, G: Gate + Sync, T: Threads + Wait + Sync, W: Se
 {
     let lent = Lent { script, shelf };
     match run_beside(rt, alloc, &lent, world, gate, LinesBy::new(alloc, way)) {
-        Ok((RunEnd { report, came }, closed)) => {
+        Ok((end, closed)) => {
+            let RunEnd { report, came } = end;
             let came = with_wanted(came, closed.wanted_memory());
             let world = closed.world();
             let journal = world.journal();

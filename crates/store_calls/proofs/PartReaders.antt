@@ -55,13 +55,19 @@ held_read section true read is = refl
 held_read section false (Ok x) is = refl
 held_read section false (Err e) is = absurd (cc (is))
 
-then_read : (parts : IndexParts) (symbols : List (List ℕ)) (r : Result (List PostingsRow) IndexRefusal) → IsOk r → IsOk (r >>= λ rows. Ok (held_of parts symbols rows))
-then_read parts symbols (Ok rows) is = refl
-then_read parts symbols (Err e) is = absurd (cc (is))
+absent_read : {A : Type 0} (section : ℕ) (read : List ℕ → ℕ → Result (List A) PartRefusal) (index : List ℕ) (reference : ℕ) → reference ≡ 0 → IsOk (held_at section read index reference)
+absent_read section read index reference none = rw none refl
+
+then_reads : {A B : Type 0} (r : Result A IndexRefusal) (later : A → Result B IndexRefusal) → IsOk r → ((x : A) → IsOk (later x)) → IsOk (r >>= later)
+then_reads (Ok x) later is reads = reads x
+then_reads (Err e) later is reads = absurd (cc (is))
 
 pub over_reads : (parts : IndexParts) → parts.toc.symbols ≡ 0 → IsOk (postings_table_at (known (table_of parts)) parts.toc.postings_table) → IsOk (over_at parts)
 unfolding over_at
-over_reads parts none is = rw none (then_read parts [] _ (held_read 6 (parts.toc.postings_table == 0) (postings_table_at (known (table_of parts)) parts.toc.postings_table) is))
+over_reads parts none is =
+    then_reads (held_at 1 symbols_at (known (symbols_of parts)) parts.toc.symbols) _ (absent_read 1 symbols_at (known (symbols_of parts)) parts.toc.symbols none)
+    (λ symbols. then_reads (held_at 6 postings_table_at (known (table_of parts)) parts.toc.postings_table) _
+    (held_read 6 (parts.toc.postings_table == 0) (postings_table_at (known (table_of parts)) parts.toc.postings_table) is) (λ rows. refl))
 
 pub memory_alone : (e : IndexRefusal) (read : Result Held IndexRefusal) → IsOk read → (e ≡ NoMemory) ⊎ (read ≡ Err e) → e ≡ NoMemory
 memory_alone e read is (inl out) = out

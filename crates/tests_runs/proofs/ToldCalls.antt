@@ -11,7 +11,11 @@ use Rattle.replay_cli.specs.call_verdicts.specs.declared.status.Status.{Status}
 use Rattle.replay_cli.specs.call_verdicts.specs.declared.status.Status.TheVariants as status
 use Rattle.replay_cli.specs.call_verdicts.specs.declared.verdict.Verdict.{Verdict}
 use Rattle.replay_cli.specs.call_verdicts.specs.declared.verdict.Verdict.TheVariants.{WordsRefused, SourceFault, ScriptRefused, SiteFault, NotEmpty, Full, Report, Checked, NoMemory}
+use Rattle.replay_cli.specs.call_verdicts.specs.Outside.{Names, Outside}
+use Rattle.replay_cli.specs.call_verdicts.specs.declared.run.Run.{Run}
+use Rattle.replay_cli.specs.Promises.{ServesTool, call_of}
 use Rattle.bucket_core.specs.Noted.{calls_told}
+use Rattle.bucket_core.specs.Told.{BucketTold}
 use Rattle.tests_runs.specs.Told.{IsAskedForAll, strange_told}
 use Rattle.tests_runs.specs.declared.strange_bucket.StrangeBucket.{StrangeBucket}
 
@@ -57,8 +61,22 @@ asked_by v (Some entries) None done was = tt
 asked_by v None (Some store) done was = tt
 asked_by v None None done was = tt
 
-pub asked_whole : (v : Verdict) (s : Status) (saying : Saying) (number : ℕ) (journal : Option (List Entry)) (store : Option StrangeBucket)
+asked_whole : (v : Verdict) (s : Status) (saying : Saying) (number : ℕ) (journal : Option (List Entry)) (store : Option StrangeBucket)
     → IsSaid v saying s → number ≡ number_of s → (v ≢ NoMemory → IsBucketAsked strange_told v journal store) → number ≡ 0 → IsAskedForAll journal store
 asked_whole v s saying number journal store said is asked none =
     let done = said_done v saying (subst (λ (x : Status). IsSaid v saying x) (ended_so s (sym none ∙ is)) said) in
     asked_by v journal store done (asked (has_memory v done))
+
+-- a generated day has no bucket to hand back
+none_asked : (journal : Option (List Entry)) (store : Option StrangeBucket) → store ≡ None → IsAskedForAll journal store
+none_asked journal (Some store) none = absurd (cc none)
+none_asked None None none = tt
+none_asked (Some entries) None none = tt
+
+-- what a call promises of it
+pub asked_of : {F : Type 0} (number : Option ℕ) (of : Names) (o : Outside StrangeBucket F) (saying : Saying) (run : Run StrangeBucket F) → o.site.store ≡ strange_told → ServesTool number of (call_of o saying run) → run.status ≡ 0 → IsAskedForAll run.journal run.store
+asked_of (Some number) of o saying run same day is = none_asked run.journal run.store day.no_store
+asked_of None of o saying run same serves is =
+    let ends = serves.ends in
+    asked_whole ends.verdict ends.status saying run.status run.journal run.store ends.said ends.number
+    (λ never. subst (λ (tells : StrangeBucket → BucketTold). IsBucketAsked tells ends.verdict run.journal run.store) same (ends.asked never)) is

@@ -1,18 +1,13 @@
 //! The program: it makes the real things, and the tool does the rest.
 #![tactic(auto)]
 
-ghost use Rattle.std.specs.Prelude.{◌≡◌, ◌≢◌, true, false, None, IsSome, is_some};
-ghost use Rattle.replay_cli.specs.lifecycle_core.specs.InLine.{IsInLine};
-ghost use Rattle.replay_cli.specs.call_verdicts.specs.Asked.{IsBucketAsked};
-ghost use Rattle.replay_cli.specs.InPhases.{IsInPhases};
-ghost use Rattle.replay_cli.specs.call_verdicts.specs.Kept.{AsksNoBucket, IsHandedBack, IsHandedOut, IsShelfOf};
-ghost use Rattle.replay_cli.specs.call_verdicts.specs.Noted.{IsNoted, met, met_alone};
+ghost use Rattle.std.specs.Prelude.{◌≡◌, true, false};
 ghost use Rattle.replay_cli.specs.call_verdicts.specs.Outside.{outside, site_call};
-ghost use Rattle.replay_cli.specs.call_verdicts.specs.Verdicts.{IsCaused, around_call, saying_to};
-ghost use Rattle.replay_cli.specs.call_verdicts.specs.Words.{bucket_word, number_word, replay_names, replay_shelf, replay_word, serial_names, shelf_word};
-ghost use Rattle.replay_cli.specs.Days.{IsDayNoted, IsToolCaused};
-ghost use Rattle.replay_cli.specs.call_verdicts.specs.declared.verdict.Verdict.TheVariants.{NoMemory};
-ghost use Rattle.tosraem.specs.Calls.{IsServed, names_replay};
+ghost use Rattle.replay_cli.specs.call_verdicts.specs.Verdicts.{saying_to};
+ghost use Rattle.replay_cli.specs.call_verdicts.specs.Words.{number_word, replay_names, serial_names};
+ghost use Rattle.replay_cli.specs.Promises.{Serves, ServesTool, call_of};
+ghost use Rattle.replay_cli.specs.Ways.{beside};
+ghost use Rattle.tosraem.specs.Calls.{names_replay};
 
 mod advice;
 mod room;
@@ -51,7 +46,7 @@ fn main(rt: HostRuntime) -> ExitCode {
 }
 
 /// Does what the words ask for: with threads where they name a replay, and else one task after another. It hands back the run that
-/// the call made, and says once more what comes of its verdict. What else that call promises of a run stands in its own clauses.
+/// the call made, and promises all that this call promises.
 fn run<S: Site, R: Source, K: Sink, T: Threads + Wait + Sync>(
     threads: &T,
     alloc: Global,
@@ -62,50 +57,16 @@ fn run<S: Site, R: Source, K: Sink, T: Threads + Wait + Sync>(
 ) -> Run<S::Store, S::Files>
 where
     S::Store: Send,
-    ensures serial { names_replay words.now ≡ false → IsServed
-        (IsToolCaused (number_word words.now)
-        (around_call IsInLine (outside (R.told script.old) (R.told script.new)
+    ensures serial { names_replay words.now ≡ false
+        → ServesTool (number_word words.now) (serial_names words.now)
+        (call_of (outside (R.told script.old) (R.told script.new)
         (site_call (S.told site.old) (S.told site.new) S.Store.told S.Files.told))
-        (serial_names words.now)
-        result.store result.shelf result.journal))
-        (saying_to (K.told out.old) (K.told out.new))
-        (λ verdict. verdict ≢ NoMemory
-        → IsBucketAsked S.Store.told verdict result.journal result.store)
-        (λ verdict. (number_word words.now ≡ None
-        → IsNoted met S.Store.told verdict result.journal result.store result.note)
-        × (IsSome (number_word words.now) → IsDayNoted verdict result.journal result.day))
-        result.status }
-    ensures replay { names_replay words.now ≡ true → IsServed
-        (IsCaused (around_call IsInPhases (outside (R.told script.old) (R.told script.new)
+        (saying_to (K.told out.old) (K.told out.new)) result) }
+    ensures replay { names_replay words.now ≡ true
+        → Serves beside (replay_names words.now)
+        (call_of (outside (R.told script.old) (R.told script.new)
         (site_call (S.told site.old) (S.told site.new) S.Store.told S.Files.told))
-        (replay_names words.now)
-        result.store result.shelf result.journal))
-        (saying_to (K.told out.old) (K.told out.new))
-        (λ verdict. verdict ≢ NoMemory
-        → IsBucketAsked S.Store.told verdict result.journal result.store)
-        (λ verdict. IsNoted met_alone S.Store.told verdict result.journal result.store result.note)
-        result.status }
-
-    // There is the note of a generated day only where the words name one.
-    ensures no_day { names_replay words.now ≡ false → number_word words.now ≡ None
-        → result.day ≡ None }
-    ensures day_alone { names_replay words.now ≡ true → result.day ≡ None }
-
-    // The bucket and the shelf are those of that call, as it left them; a generated day has a bucket of its own.
-    ensures handed { IsHandedOut (S.told site.old).buckets (S.told site.new).buckets
-        result.store }
-    ensures kept { number_word words.now ≡ None
-        → is_some result.journal ≡ is_some result.store }
-    ensures back { number_word words.now ≡ None
-        → IsHandedBack S.Store.told result.journal result.store }
-    ensures closed { bucket_word words.now ≡ None → replay_word words.now ≡ None
-        → AsksNoBucket (S.told site.old) (S.told site.new) }
-    ensures shelf { names_replay words.now ≡ false
-        → IsShelfOf S.Files.told (shelf_word words.now) (S.told site.old)
-        (S.told site.new) result.shelf }
-    ensures lent { names_replay words.now ≡ true
-        → IsShelfOf S.Files.told (replay_shelf words.now) (S.told site.old)
-        (S.told site.new) result.shelf }
+        (saying_to (K.told out.old) (K.told out.new)) result) }
 {
     if asks_for_threads(words) {
         run_replay(

@@ -12,7 +12,7 @@ use Rattle.script_core.specs.Lawful.{IsLawfulScript}
 use Rattle.compactor.specs.declared.compact_end.CompactEnd.TheVariants as compacting
 use Rattle.cleaner.specs.declared.clean.CleanEnd.TheVariants as cleanup
 use Rattle.lifecycle_core.specs.Breaches.{IsSeatOf, IsUnbroken, watched}
-use Rattle.lifecycle_core.specs.Causes.{AreFound, AreMissesExplained, IsBlamedInCompaction, IsExplained, IsExplainedBy, SomeCame}
+use Rattle.lifecycle_core.specs.Causes.{AreCompactionsExplained, AreFound, AreMissesExplained, IsBlamedInCompaction, IsExplained, IsExplainedBy, SomeCame}
 use Rattle.lifecycle_core.specs.Conducts.{Who}
 use Rattle.lifecycle_core.specs.Holdings.{Use}
 use Rattle.lifecycle_core.specs.Phases.{IsInTurn, IsRunOf}
@@ -64,8 +64,8 @@ module _ (setting : Setting) (journal : List Entry) (ends : List (List (List End
         view_at setting journal m used call.is by.0 by.1 lawful ends run e among front back at honest latest,
       ))
 
-  round_explained : IsOfBytes journal → (number : ℕ) → SomeCame ends (compacted (compacting.Missing number)) → IsExplainedBy setting (watched setting journal) IsBlamedInCompaction journal number
-  round_explained of_bytes number came =
+  pub rounds_explained : IsOfBytes journal → AreCompactionsExplained setting journal ends
+  rounds_explained of_bytes number came =
       let c = compaction_came setting journal ends lawful run (compacting.Missing number) came in
       compaction_is_explained setting journal c.seat number c.compactor
       (compaction_miss setting journal lawful deeds of_bytes c.seat number (compactor_compacts setting journal ends lawful run c.seat c.compactor) c.run)
@@ -76,7 +76,7 @@ module _ (setting : Setting) (journal : List Entry) (ends : List (List (List End
   misses_explained turns of_bytes (compacted (compacting.Done collected groups expired)) number came missing = absurd missing
   misses_explained turns of_bytes (compacted (compacting.Fault entry)) number came missing = absurd missing
   misses_explained turns of_bytes (compacted (compacting.Missing entry)) number came missing =
-      subst (IsExplainedBy setting (watched setting journal) IsBlamedInCompaction journal) missing (round_explained of_bytes entry came)
+      subst (IsExplainedBy setting (watched setting journal) IsBlamedInCompaction journal) missing (rounds_explained of_bytes entry came)
   misses_explained turns of_bytes (compacted (compacting.Damaged entry)) number came missing = absurd missing
   misses_explained turns of_bytes (compacted compacting.TooMany) number came missing = absurd missing
   misses_explained turns of_bytes (compacted compacting.TooLarge) number came missing = absurd missing

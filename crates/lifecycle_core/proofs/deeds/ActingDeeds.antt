@@ -39,7 +39,7 @@ use Rattle.script_core.proofs.SeatLaws.{are_seated}
 use Rattle.script_core.specs.Lawful.{IsLawfulPhase, IsLawfulScript}
 use Rattle.script_core.specs.Workers.{workers_before, workers_of}
 use Rattle.script_core.specs.declared.block.Block.{Block}
-use Rattle.lifecycle_core.specs.Acting.{IsActing, IsCompactorAt, IsReading, acting, actors}
+use Rattle.lifecycle_core.specs.Acting.{IsActing, IsActorSeat, IsCompactorAt, IsReading, acting, actors}
 use Rattle.lifecycle_core.specs.Breaches.{IsCompactorSeat}
 use Rattle.world_core.specs.Journals.{of_seat}
 use Rattle.lifecycle_core.specs.Conducts.{Assigned, Conduct, PhaseRun, TasksAt, TasksRun, Who, WorkerRun, who_of, working}
@@ -56,7 +56,7 @@ use Rattle.lifecycle_core.proofs.journals.Told.{Rises}
 use Rattle.lifecycle_core.proofs.phases.EachEntry.{phases_each}
 use Rattle.lifecycle_core.proofs.phases.OneSeat.{one_phase, one_worker}
 use Rattle.lifecycle_core.proofs.phases.Stretches.{rises_right}
-use Rattle.lifecycle_core.proofs.phases.ActingRuns.{no_gateway}
+use Rattle.lifecycle_core.proofs.phases.Acted.{no_gateway}
 
 -- ---- lists
 
@@ -395,6 +395,7 @@ module _ (setting : Setting) (journal : List Entry) (lawful : IsLawfulScript set
     own : Worker
     among : Contains (workers_of setting.script number) own
     is : at_seat own ≡ actor
+    free : own.gateway ≡ None
     lone : Alone setting lawful number own
 
   actor_of : (number : ℕ) (actor : Worker) → Contains (actors setting numbering number) actor → IsActor number actor
@@ -402,15 +403,18 @@ module _ (setting : Setting) (journal : List Entry) (lawful : IsLawfulScript set
       let one = of_map at_seat (filter (λ (w : Worker). is_none w.gateway) (workers_of setting.script number)) actor inside in
       let among = of_filter (λ (w : Worker). is_none w.gateway) (workers_of setting.script number) one.0 one.1 in
       let none = no_gateway (one.0).gateway (member_passes (λ (w : Worker). is_none w.gateway) (workers_of setting.script number) one.0 one.1) in
-      record { own = one.0; among = among; is = one.2; lone = alone setting lawful number one.0 among none }
+      record { own = one.0; among = among; is = one.2; free = none; lone = alone setting lawful number one.0 among none }
 
   into_actors : (number : ℕ) (worker : Worker) → Contains (workers_of setting.script number) worker → worker.gateway ≡ None → Contains (actors setting numbering number) (at_seat worker)
   into_actors number worker among none =
       into_map at_seat (filter (λ (w : Worker). is_none w.gateway) (workers_of setting.script number)) worker
       (into_filter (λ (w : Worker). is_none w.gateway) (workers_of setting.script number) worker among (ap is_none none))
 
+  seat_of : (n : ℕ) (a : Worker) (x : IsActor n a) → IsActorSeat setting x.own.seat
+  seat_of n a x = (n, x.own, x.among, x.free, refl)
+
   own_seats : (n m : ℕ) (a b : Worker) → (x : IsActor n a) (y : IsActor m b) → a.seat ≡ b.seat → x.own.seat ≡ y.own.seat
-  own_seats n m a b x y same = acts.apart x.own.seat y.own.seat (ap (λ (w : Worker). w.seat) x.is ∙ same ∙ sym (ap (λ (w : Worker). w.seat) y.is))
+  own_seats n m a b x y same = acts.numbered.apart x.own.seat y.own.seat (seat_of n a x) (seat_of m b y) (ap (λ (w : Worker). w.seat) x.is ∙ same ∙ sym (ap (λ (w : Worker). w.seat) y.is))
 
   -- a seat is one actor's, in one phase
   actors_apart : (n m : ℕ) (a b : Worker) → Contains (actors setting numbering n) a → Contains (actors setting numbering m) b → a.seat ≡ b.seat → n ≡ m
@@ -420,7 +424,7 @@ module _ (setting : Setting) (journal : List Entry) (lawful : IsLawfulScript set
       one_phase setting.script lawful n m x.own y.own x.among y.among (own_seats n m a b x y same)
 
   actor_above : (n : ℕ) (a : Worker) → Contains (actors setting numbering n) a → 0 < a.seat
-  actor_above n a inside = let x = actor_of n a inside in subst (λ (w : Worker). 0 < w.seat) x.is (acts.above x.own.seat x.lone.above)
+  actor_above n a inside = let x = actor_of n a inside in subst (λ (w : Worker). 0 < w.seat) x.is (acts.numbered.above x.own.seat (seat_of n a x))
 
   clock_apart : (n : ℕ) (a : Worker) (clock : Entry) → Contains (actors setting numbering n) a → clock.seat ≡ 0 → clock.seat ≢ a.seat
   clock_apart n a clock inside zero_seat same = let above = actor_above n a inside in absurd (omega (arith, above, zero_seat, same))
@@ -598,10 +602,12 @@ module _ (setting : Setting) (journal : List Entry) (lawful : IsLawfulScript set
     of_compactor : IsCompactorAt setting numbering seat → Compacts deed
 
   -- who compacts at a seat is an actor
+  compactor_free : (own : ℕ) (is : IsCompactorSeat setting own) → is.worker.gateway ≡ None
+  compactor_free own is =
+      compactor_alone setting lawful is.number is.place is.worker is.compacts.phase is.compacts.task is.works is.own is.compacts.in_phases is.compacts.in_tasks (is.stop, is.compacts.asks)
+
   compactor_acts : (own : ℕ) (is : IsCompactorSeat setting own) → Contains (actors setting numbering is.number) (at_seat is.worker)
-  compactor_acts own is =
-      into_actors is.number is.worker is.works
-      (compactor_alone setting lawful is.number is.place is.worker is.compacts.phase is.compacts.task is.works is.own is.compacts.in_phases is.compacts.in_tasks (is.stop, is.compacts.asks))
+  compactor_acts own is = into_actors is.number is.worker is.works (compactor_free own is)
 
   actor_seat : (number : ℕ) (b : Worker) (inside : Contains (actors setting numbering number) b) → SeatDeed b.seat
   actor_seat number b inside =
@@ -617,7 +623,7 @@ module _ (setting : Setting) (journal : List Entry) (lawful : IsLawfulScript set
             let here = compactor_acts at.0 is in
             let phases : is.number ≡ number = actors_apart is.number number (at_seat is.worker) b here inside seat in
             let y = actor_of is.number (at_seat is.worker) here in
-            let worker : is.worker ≡ x.own = one_worker setting.script lawful is.number number is.worker x.own is.works x.among (acts.apart is.worker.seat x.own.seat (seat ∙ sym (ap (λ (w : Worker). w.seat) x.is))) in
+            let worker : is.worker ≡ x.own = one_worker setting.script lawful is.number number is.worker x.own is.works x.among (acts.numbered.apart is.worker.seat x.own.seat (is.number, is.worker, is.works, compactor_free at.0 is, refl) (seat_of number b x) (seat ∙ sym (ap (λ (w : Worker). w.seat) x.is))) in
             let phase : is.compacts.phase ≡ x.lone.phase = cc (is.compacts.in_phases, x.lone.is, phases) in
             d.of_compaction (is.place, is.compacts.task, subst (λ (w : Worker). Contains w.tasks is.place) worker is.own, subst (λ (p : Phase). slice_get p.tasks is.place ≡ Some is.compacts.task) phase is.compacts.in_tasks, (is.stop, is.compacts.asks));
       }

@@ -1,15 +1,15 @@
 -- Every lawful journal of a lawful script is an acting one: gateways do nothing but read, each at a seat of its own.
-use Rattle.std.proofs.Common.{◌≡◌, ◌≢◌, ◌⊎◌, inl, inr, ℕ, zero, suc, ◌+◌, ◌<◌, ◌≤◌, ◌==◌, Bool, IsTrue, true, false, cond, List, [], ◌∷◌, length, map, Contains, Option, Some, None, refl, sym, ◌∙◌, ap, subst, arith}
-use Rattle.std.specs.Prelude.{is_none, slice_get}
-use Rattle.std.specs.List.{All, AllByRecursion, AllZip, filter}
+use Rattle.std.proofs.Common.{◌≡◌, ◌≢◌, inl, inr, ℕ, zero, suc, ◌+◌, ◌<◌, ◌≤◌, ◌==◌, Bool, IsTrue, true, false, List, [], ◌∷◌, length, map, Contains, Option, Some, None, refl, sym, ◌∙◌, ap, subst, arith}
+use Rattle.std.specs.Prelude.{is_none, option_map, slice_get}
+use Rattle.std.specs.List.{All, AllByRecursion, filter}
 use Rattle.std.proofs.lemmas.Bool.Decides.{nat_tests}
 use Rattle.std.proofs.lemmas.List.{length-append}
 use Rattle.std.proofs.lemmas.List.Elements.{All-append, All-contains, All-contains_itself, All-from_recursion, All-nil, All-weaker, recursion_from_All}
 use Rattle.std.proofs.lemmas.Option.{slice_get_within}
-use Rattle.base.proofs.Membership.{into_filter, into_map, member_passes, of_filter, of_map, place_of_member}
-use Rattle.base.proofs.Pairs.{AllZip-second}
+use Rattle.base.proofs.Membership.{member_passes, of_filter, of_map, place_of_member}
 use Rattle.base.proofs.Lists.{slice_get-below}
 use Rattle.world_core.specs.declared.entry.Entry.{Entry}
+use Rattle.querier.specs.declared.asking.Ask.{Ask}
 use Rattle.store_ranges.specs.Reads.{Query as Question}
 use Rattle.script_core.proofs.SeatLaws.{are_seated}
 use Rattle.script_core.specs.Lawful.{IsLawfulScript}
@@ -26,15 +26,15 @@ use Rattle.script_workers.specs.declared.task.Task.{Task}
 use Rattle.script_workers.specs.declared.work.Work.{Work}
 use Rattle.script_workers.specs.declared.work.Work.TheVariants.{Upload, Sync, Compact, Clean, Query}
 use Rattle.script_workers.specs.declared.worker.Worker.{Worker}
-use Rattle.lifecycle_core.specs.Acting.{IsActing, IsReading, acting, actors}
+use Rattle.lifecycle_core.specs.Acting.{HasActors, IsActing, IsNumbering, IsReading, ReadsApart, actors}
 use Rattle.world_core.specs.Journals.{of_seat}
-use Rattle.lifecycle_core.specs.Conducts.{Assigned, Conduct, PhaseRun, TasksAt, TasksRun, Who, WorkerRun, who_of, working}
+use Rattle.lifecycle_core.specs.Conducts.{Assigned, TasksAt, TasksRun, Who, WorkerRun, who_of}
 use Rattle.lifecycle_core.specs.Holdings.{Holding, Holdings, Use, holding_of, none_held, nothing_held}
-use Rattle.lifecycle_core.specs.Phases.{IsRunOf, by_script, by_workers}
+use Rattle.lifecycle_core.specs.Phases.{IsRunOf, by_script}
 use Rattle.lifecycle_core.specs.Setting.{Setting}
-use Rattle.lifecycle_core.specs.Tasks.{End, QueryTask, TaskRun, ask_to, sync_rules}
+use Rattle.lifecycle_core.specs.Tasks.{End, PartTask, QueryTask, TaskRun, ask_to, sync_rules, synced_with}
+use Rattle.lifecycle_core.proofs.phases.Acted.{conduct_acts, no_gateway, seats_kept}
 use Rattle.lifecycle_core.proofs.phases.GatewayParts.{part_entries, query_is}
-use Rattle.lifecycle_core.specs.Ways.{PhasesRun}
 use Rattle.lifecycle_core.proofs.misses.GatewayEntries.{call_reads, sync_reads}
 
 -- ---- seats
@@ -169,7 +169,7 @@ are_others gateways gateway tasks (place ∷ places) (a ∷ own) each at =
     let same : task.task ≡ a.task = cc (task.is, (at.0).1) in
     (subst (λ (t : Task). IsOther t.work) same (for_gateway gateways gateway place (task.task).work task.whose), are_others gateways gateway tasks places own each.1 at.1)
 
--- ---- a phase
+-- ---- the script's own conduct
 
 abbrev same_seat : ℕ → ℕ
 same_seat seat = seat
@@ -178,59 +178,43 @@ same_seat seat = seat
 abbrev again : Worker → Worker
 again worker = record { seat = same_seat worker.seat; gateway = worker.gateway; tasks = worker.tasks }
 
--- the ends of the workers without a gateway
-abbrev shipped_by : List Worker → List (List End) → List (List End)
-shipped_by [] ends = []
-shipped_by (w ∷ ws) [] = []
-shipped_by (w ∷ ws) (own ∷ ends) = cond (is_none w.gateway) (own ∷ shipped_by ws ends) (shipped_by ws ends)
+all_again : (ws : List Worker) → ws ≡ map again ws
+all_again [] = refl
+all_again (w ∷ ws) = ap (λ (rest : List Worker). w ∷ rest) (all_again ws)
 
-pub no_gateway : (o : Option ℕ) → is_none o ≡ true → o ≡ None
-no_gateway None is = refl
-no_gateway (Some g) is = absurd (cc (is))
+-- an end counts as itself
+abbrev same_end : End → End
+same_end end = end
 
-a_gateway : (o : Option ℕ) → is_none o ≡ false → (g : ℕ) × (o ≡ Some g)
-a_gateway None is = absurd (cc (is))
+kept_end : (end : Option End) → end ≡ option_map same_end end
+kept_end None = refl
+kept_end (Some end) = refl
+
+a_gateway : (o : Option ℕ) → o ≢ None → (g : ℕ) × (o ≡ Some g)
+a_gateway None is = absurd (is refl)
 a_gateway (Some g) is = (g, refl)
 
--- runs of tasks, where what one may do the other may
-pub tasks_same : {State E : Type 0} (one other : Conduct State E) → ((who : Who) (place : ℕ) (w : Work) (all : List Entry) (before : State) (made : List Entry) (end : Option E) (after : State) → one.does who place w all before made end after → other.does who place w all before made end after)
-    → (who : Who) (all : List Entry) (before : State) (tasks : List Assigned) (entries : List Entry) (ends : List E) (last : State) → TasksRun one who all before tasks entries ends last → TasksRun other who all before tasks entries ends last
-tasks_same one other f who all before [] entries ends last run = run
-tasks_same one other f who all before (own ∷ tasks) entries ends last (inl (made, others, end, later, next, parts, run, is, rest)) =
-    inl (made, others, end, later, next, parts, f who own.place own.task.work all before made (Some end) next run, is, tasks_same one other f who all next tasks others later last rest)
-tasks_same one other f who all before (own ∷ tasks) entries ends last (inr (run, is)) = inr (f who own.place own.task.work all before entries None last run, is)
+-- what a worker without a gateway does asks for nothing that it holds
+done_by : (setting : Setting) (who : Who) (place : ℕ) (w : Work) (before after held : Holding) (made : List Entry) (end : Option End) → who.gateway ≡ None → TaskRun setting who place w before made end after → (left : Holding) × TaskRun setting who place w held made end left
+done_by setting who place (Upload ulid stop) before after held made end none run = (held, (run.0, refl))
+done_by setting who place (Sync gateway) before after held made end none (own, run, is, left) = (synced_with held made own, (own, run, is, refl))
+done_by setting who place (Compact stop) before after held made end none run = (held, (run.0, refl))
+done_by setting who place (Clean stop) before after held made end none run = (held, (run.0, refl))
+done_by setting who place (Query low high selector) before after held made end none run =
+    let unasked : ask_to setting who.gateway low high ≡ None = ap (λ (by : Option ℕ). ask_to setting by low high) none in
+    let own : PartTask setting selector None before made end after = subst (λ (o : Option Ask). PartTask setting selector o before made end after) unasked run in
+    (held, subst (λ (o : Option Ask). PartTask setting selector o held made end held) (sym unasked) (own.0, refl))
 
-module _ (setting : Setting) (tasks : List Task) (views after : Holdings) (made : List Entry) where
-  -- a worker without a gateway does what it did
-  ships_again : (worker : Worker) (own : List End) → worker.gateway ≡ None → WorkerRun (by_script setting) tasks views made after worker own → WorkerRun (acting setting same_seat) tasks none_held made none_held (again worker) own
-  ships_again worker own none run = record {
-    own = run.own;
-    are = run.are;
-    last = run.last;
-    runs = tasks_same (by_script setting) (acting setting same_seat) (λ who place w all before es end next does. does) (who_of worker) made nothing_held run.own (of_seat worker.seat made) own run.last
-        (subst (λ (g : Option ℕ). TasksRun (by_script setting) (who_of worker) made (holding_of views g) run.own (of_seat worker.seat made) own run.last) none run.runs);
-    leaves = tt;
+module _ (setting : Setting) (lawful : IsLawfulScript setting.script) where
+  pub own_numbering : IsNumbering setting same_seat
+  own_numbering = record {
+    above = λ seat (number, worker, among, none, sits). let s = stands setting.script number worker lawful among in omega (arith, s.seat, sits);
+    apart = λ one other a b same. same;
   }
 
-  first_again : (w : Worker) (ws : List Worker) (own : List End) (ends : List (List End)) (b : Bool) → is_none w.gateway ≡ b → WorkerRun (by_script setting) tasks views made after w own
-      → AllZip (WorkerRun (acting setting same_seat) tasks none_held made none_held) (map again (filter (λ (x : Worker). is_none x.gateway) ws)) (shipped_by ws ends)
-      → AllZip (WorkerRun (acting setting same_seat) tasks none_held made none_held) (map again (cond b (w ∷ filter (λ (x : Worker). is_none x.gateway) ws) (filter (λ (x : Worker). is_none x.gateway) ws)))
-      (cond b (own ∷ shipped_by ws ends) (shipped_by ws ends))
-  first_again w ws own ends true is run rest = (ships_again w own (no_gateway w.gateway is) run, rest)
-  first_again w ws own ends false is run rest = rest
-
-  all_again : (ws : List Worker) (ends : List (List End)) → AllZip (WorkerRun (by_script setting) tasks views made after) ws ends
-      → AllZip (WorkerRun (acting setting same_seat) tasks none_held made none_held) (map again (filter (λ (x : Worker). is_none x.gateway) ws)) (shipped_by ws ends)
-  all_again [] [] all = tt
-  all_again [] (own ∷ ends) all = absurd all
-  all_again (w ∷ ws) [] all = absurd all
-  all_again (w ∷ ws) (own ∷ ends) all = first_again w ws own ends (is_none w.gateway) refl all.0 (all_again ws ends all.1)
-
-module _ (setting : Setting) (lawful : IsLawfulScript setting.script) (number : ℕ) (phase : Phase) (at : slice_get setting.script.phases number ≡ Some phase) (views after : Holdings) (made : List Entry) (ends : List (List End))
-    (run : PhaseRun (by_script setting) phase.tasks (workers_of setting.script number) views made ends after) where
   -- no worker of one task alone has a gateway's seat
-  apart_from_actors : (worker : Worker) (g : ℕ) → Contains (workers_of setting.script number) worker → worker.gateway ≡ Some g → (other : ℕ) → Contains (map (λ (w : Worker). w.seat) (actors setting same_seat other)) worker.seat → ⊥
-  apart_from_actors worker g among is other sits =
+  apart_from_actors : (number : ℕ) (worker : Worker) (g : ℕ) → Contains (workers_of setting.script number) worker → worker.gateway ≡ Some g → (other : ℕ) → Contains (map (λ (w : Worker). w.seat) (actors setting same_seat other)) worker.seat → ⊥
+  apart_from_actors number worker g among is other sits =
       let one = of_map (λ (w : Worker). w.seat) (actors setting same_seat other) worker.seat sits in
       let two = of_map again (filter (λ (x : Worker). is_none x.gateway) (workers_of setting.script other)) one.0 one.1 in
       let whose = two.0 in
@@ -240,8 +224,8 @@ module _ (setting : Setting) (lawful : IsLawfulScript setting.script) (number : 
       let same : whose ≡ worker = one_worker setting.script other number whose worker (stands setting.script other whose lawful inside) (stands setting.script number worker lawful among) seat in
       cc (ap (λ (w : Worker). w.gateway) same, is, no_gateway whose.gateway alone)
 
-  gateway_reads : (worker : Worker) (g : ℕ) (own : List End) → Contains (workers_of setting.script number) worker → worker.gateway ≡ Some g → WorkerRun (by_script setting) phase.tasks views made after worker own → AllRead (of_seat worker.seat made)
-  gateway_reads worker g own among is w =
+  gateway_reads : (number : ℕ) (phase : Phase) (at : slice_get setting.script.phases number ≡ Some phase) (views after : Holdings) (made : List Entry) (worker : Worker) (g : ℕ) (own : List End) → Contains (workers_of setting.script number) worker → worker.gateway ≡ Some g → WorkerRun (by_script setting) phase.tasks views made after worker own → AllRead (of_seat worker.seat made)
+  gateway_reads number phase at views after made worker g own among is w =
       let s = stands setting.script number worker lawful among in
       let same_phase : s.phase ≡ phase = cc (s.is, at) in
       let hand : s.hand ≡ hands.Gateway g = is_gateway s.hand g (sym s.own.gateway ∙ is) in
@@ -251,80 +235,35 @@ module _ (setting : Setting) (lawful : IsLawfulScript setting.script) (number : 
       tasks_read setting (who_of worker) made (holding_of views worker.gateway) w.last w.own (of_seat worker.seat made) own
       (are_others (gateway_count setting.script.gateways) g phase.tasks worker.tasks w.own (recursion_from_All (IsTaskOf (gateway_count setting.script.gateways) phase.tasks (hands.Gateway g)) worker.tasks each) w.are) w.runs
 
-  abbrev Sits : Entry → Type 0
-  Sits e = Contains (map (λ (w : Worker). w.seat) (actors setting same_seat number)) e.seat ⊎ (acting setting same_seat).bystands e
-
-  sits_by : (e : Entry) (worker : Worker) (own : List End) (b : Bool) → Contains made e → Contains (workers_of setting.script number) worker → worker.seat ≡ e.seat → is_none worker.gateway ≡ b
-      → WorkerRun (by_script setting) phase.tasks views made after worker own → Sits e
-  sits_by e worker own true inside among seat is w =
-      inl (subst (Contains (map (λ (x : Worker). x.seat) (actors setting same_seat number))) seat
-      (into_map (λ (x : Worker). x.seat) (actors setting same_seat number) (again worker)
-      (into_map again (filter (λ (x : Worker). is_none x.gateway) (workers_of setting.script number)) worker (into_filter (λ (x : Worker). is_none x.gateway) (workers_of setting.script number) worker among is))))
-  sits_by e worker own false inside among seat is w =
-      let g = a_gateway worker.gateway is in
+  reads_apart : (number : ℕ) (phase : Phase) (worker : Worker) (views after : Holdings) (made : List Entry) (own : List End) → slice_get setting.script.phases number ≡ Some phase → Contains (workers_of setting.script number) worker → worker.gateway ≢ None → WorkerRun (by_script setting) phase.tasks views made after worker own → All (ReadsApart setting same_seat) (of_seat worker.seat made)
+  reads_apart number phase worker views after made own at among some w =
+      let g = a_gateway worker.gateway some in
       let s = stands setting.script number worker lawful among in
-      let test : (e.seat == worker.seat) ≡ true = grind (arith, nat_tests, seat) in
-      inr (
+      All-weaker (Contains (of_seat worker.seat made)) (ReadsApart setting same_seat)
+      (λ e inside.
+      let test = member_passes (λ (x : Entry). x.seat == worker.seat) made e inside in
+      let seat : e.seat ≡ worker.seat = grind (arith, nat_tests, test) in (
         (λ zero_seat. absurd (omega (arith, s.seat, seat, zero_seat))),
-        All-contains (λ (x : Entry). IsReading x.op) (of_seat worker.seat made) e (gateway_reads worker g.0 own among g.1 w) (into_filter (λ (x : Entry). x.seat == worker.seat) made e inside test),
-        (λ other sits. apart_from_actors worker g.0 among g.1 other (subst (Contains (map (λ (x : Worker). x.seat) (actors setting same_seat other))) (sym seat) sits)),
-      )
+        All-contains (λ (x : Entry). IsReading x.op) (of_seat worker.seat made) e (gateway_reads number phase at views after made worker g.0 own among g.1 w) inside,
+        (λ other sits. apart_from_actors number worker g.0 among g.1 other (subst (Contains (map (λ (x : Worker). x.seat) (actors setting same_seat other))) seat sits)),
+      ))
+      (of_seat worker.seat made) (All-contains_itself (of_seat worker.seat made))
 
-  one_sits : (e : Entry) → Contains made e → Sits e
-  one_sits e inside = elim (All-contains (λ (x : Entry). Contains (map (λ (w : Worker). w.seat) (workers_of setting.script number)) x.seat ⊎ ⊥) made e run.seats inside) [
-    | inl sits ↦
-        let who = of_map (λ (w : Worker). w.seat) (workers_of setting.script number) e.seat sits in
-        let own = AllZip-second (WorkerRun (by_script setting) phase.tasks views made after) (workers_of setting.script number) ends who.0 run.runs who.1 in
-        sits_by e who.0 own.0 (is_none (who.0).gateway) inside who.1 who.2 refl own.2
-    | inr none ↦ absurd none
-  ]
-
-  phase_acts : PhaseRun (acting setting same_seat) phase.tasks (actors setting same_seat number) none_held made (shipped_by (workers_of setting.script number) ends) none_held
-  phase_acts = record {
-    seats = All-weaker (Contains made) Sits one_sits made (All-contains_itself made);
-    runs = all_again setting phase.tasks views after made (workers_of setting.script number) ends run.runs;
-    kept = λ gateway none. refl;
+  script_acts : HasActors setting same_seat (by_script setting)
+  script_acts = record {
+    actors_are = λ number. all_again (filter (λ (worker : Worker). is_none worker.gateway) (workers_of setting.script number));
+    end_as = same_end;
+    does = λ who place work all before made end after none run held.
+        subst (λ (own : Option End). (left : Holding) × TaskRun setting who place work held made own left) (kept_end end) (done_by setting who place work before after held made end none run);
+    reads = λ number phase worker before after made ends at among some w. reads_apart number phase worker before after made ends at among some w;
+    bystanders = λ e none. absurd none;
   }
-
--- ---- all phases
-
-abbrev ends_acted : Setting → ℕ → List (List (List End)) → List (List (List End))
-ends_acted setting number [] = []
-ends_acted setting number (own ∷ ends) = shipped_by (workers_of setting.script number) own ∷ ends_acted setting (number + 1) ends
-
-phases_act : (setting : Setting) → IsLawfulScript setting.script → (number : ℕ) (views : Holdings) (phases : List Phase) (entries : List Entry) (ends : List (List (List End))) → ((k : ℕ) (p : Phase) → slice_get phases k ≡ Some p → slice_get setting.script.phases (number + k) ≡ Some p)
-    → PhasesRun (by_workers setting) number views phases entries ends → PhasesRun (working (acting setting same_seat)) number none_held phases entries (ends_acted setting number ends)
-phases_act setting lawful number views [] entries ends same run = (run.0, ap (ends_acted setting number) run.1)
-phases_act setting lawful number views (phase ∷ phases) entries ends same (inl none) = inl (none.0, ap (ends_acted setting number) none.1)
-phases_act setting lawful number views (phase ∷ phases) entries ends same (inr (clock, made, others, first, later, after, parts, begins, run, are, go)) =
-    let at : slice_get setting.script.phases number ≡ Some phase = ap (slice_get setting.script.phases) (omega arith) ∙ same 0 phase refl in
-    let next : (k : ℕ) (p : Phase) → slice_get phases k ≡ Some p → slice_get setting.script.phases (number + 1 + k) ≡ Some p = λ k p own. ap (slice_get setting.script.phases) (omega arith) ∙ same (suc k) p own in
-    inr (
-      clock,
-      made,
-      others,
-      shipped_by (workers_of setting.script number) first,
-      ends_acted setting (number + 1) later,
-      none_held,
-      parts,
-      begins,
-      phase_acts setting lawful number phase at views after made first run,
-      ap (ends_acted setting number) are,
-      phases_act setting lawful (number + 1) after phases others later next go,
-    )
 
 -- a lawful journal is acting
 pub runs_act : (setting : Setting) (journal : List Entry) (ends : List (List (List End))) → IsLawfulScript setting.script → IsRunOf setting journal ends → IsActing setting journal
-runs_act setting journal ends lawful run = record {
-  seats = same_seat;
-  above = λ seat above. above;
-  apart = λ one other same. same;
-  ends = ends_acted setting 0 ends;
-  kept = run.kept;
-  phases = phases_act setting lawful 0 none_held setting.script.phases journal ends (λ k p own. ap (slice_get setting.script.phases) (omega arith) ∙ own) run.phases;
-}
+runs_act setting journal ends lawful run = conduct_acts setting same_seat (by_script setting) (script_acts setting lawful) (own_numbering setting lawful) journal none_held ends run.kept run.phases
 
 -- at its own seats
 pub seats_stay : (setting : Setting) (journal : List Entry) (ends : List (List (List End))) (lawful : IsLawfulScript setting.script) (run : IsRunOf setting journal ends) (seat : ℕ) → (runs_act setting journal ends lawful run).seats seat ≡ seat
 unfolding runs_act
-seats_stay setting journal ends lawful run seat = refl
+seats_stay setting journal ends lawful run seat = seats_kept setting same_seat (by_script setting) (script_acts setting lawful) (own_numbering setting lawful) journal none_held ends run.kept run.phases seat

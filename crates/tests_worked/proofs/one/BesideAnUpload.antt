@@ -138,8 +138,7 @@ kept = record {
 pub acting_listing : IsActing late.setting (strange.journal_with strange.lists)
 acting_listing = record {
   seats = seats;
-  above = λ seat more. omega (arith, more);
-  apart = λ one other same. omega (arith, same);
+  numbered = record { above = λ seat actor. omega arith; apart = λ one other a b same. omega (arith, same) };
   ends = ends ∷ [];
   kept = kept;
   phases = phases;

@@ -29,6 +29,7 @@ use Rattle.script_workers.specs.declared.worker.Worker.{Worker}
 use Rattle.script_workers.specs.declared.phase.Phase.{Phase}
 use Rattle.script_workers.specs.declared.task.Task.{Task}
 use Rattle.script_workers.specs.declared.work.Work.TheVariants as works
+use Rattle.compactor.specs.declared.compact_end.CompactEnd.TheVariants as compacting
 use Rattle.lifecycle_core.specs.Breaches.{IsUnbroken, honesty, watched}
 use Rattle.lifecycle_core.specs.Causes.{IsDamaged, IsExplained, IsExplainedBy, IsFault, IsMissing, IsWell, blamed_for}
 use Rattle.lifecycle_core.specs.Conducts.{CameTo}
@@ -36,7 +37,7 @@ use Rattle.lifecycle_core.specs.Guarantees.{Answered, IsGiven, IsGuaranteed, IsP
 use Rattle.lifecycle_core.specs.Holdings.{Use, empty_cache}
 use Rattle.lifecycle_core.specs.Phases.{IsFinished, IsRunOf}
 use Rattle.lifecycle_core.specs.Quiet.{DeletesNothing}
-use Rattle.lifecycle_core.specs.Tasks.{End, QueryTask, answered, asks_in, sync_rules, synced}
+use Rattle.lifecycle_core.specs.Tasks.{End, QueryTask, answered, asks_in, compacted, sync_rules, synced}
 use Rattle.tests_worked.specs.LostIndex as lost
 use Rattle.tests_worked.specs.OneBlock as one
 use Rattle.tests_worked.specs.SmallBlock as small
@@ -190,9 +191,15 @@ in_time = All-weaker (NamesAll one.setting one.journal) Covered (λ n all synced
 sound : IsSound one.setting one.journal one.asked
 sound = record { exact = exact; named = names; covered = λ uploaded. in_time }
 
+-- no compaction came to it
+abbrev IsOther : End → Type 0
+IsOther (compacted end) = ⊥
+IsOther other = Unit {0}
+
 pub guaranteed : IsGuaranteed one.setting one.journal one.ends
 guaranteed = record {
   explained = λ turns end number came none. absurd (of_each (λ end. (n : ℕ) → ¬ IsMissing end n) one.ends end (all_ends (λ end. (n : ℕ) → ¬ IsMissing end n) _ _ _ (λ n f. f) (λ n f. f) (λ n f. f)) came number none);
+  compactions = λ number came. absurd (of_each IsOther one.ends (compacted (compacting.Missing number)) (all_ends IsOther _ _ _ tt tt tt) came);
   faults = λ end number came fault. absurd (of_each (λ end. (n : ℕ) → ¬ IsFault end n) one.ends end (all_ends (λ end. (n : ℕ) → ¬ IsFault end n) _ _ _ (λ n f. f) (λ n f. f) (λ n f. f)) came number fault);
   undamaged = λ honest end came. of_each (λ end. ¬ IsDamaged end) one.ends end (all_ends (λ end. ¬ IsDamaged end) _ _ _ (λ d. d) (λ d. d) (λ d. d)) came;
   sound = λ honest query given. subst (IsSound one.setting one.journal) (given_is query given) sound;
@@ -245,6 +252,7 @@ pub lost_guaranteed : IsGuaranteed one.setting lost.journal lost.ends
 lost_guaranteed = record {
   explained = λ turns end number came misses. of_each Explained lost.ends end
       (all_ends Explained _ _ _ (λ n f. absurd f) (λ n f. absurd f) (λ n same. subst (IsExplained one.setting lost.journal) same lost_explained)) came number misses;
+  compactions = λ number came. absurd (of_each IsOther lost.ends (compacted (compacting.Missing number)) (all_ends IsOther _ _ _ tt tt tt) came);
   faults = λ end number came fault. absurd (of_each (λ end. (n : ℕ) → ¬ IsFault end n) lost.ends end (all_ends (λ end. (n : ℕ) → ¬ IsFault end n) _ _ _ (λ n f. f) (λ n f. f) (λ n f. f)) came number fault);
   undamaged = λ honest end came. absurd (lost_is_dishonest honest);
   sound = λ honest query given. absurd (lost_is_dishonest honest);

@@ -32,7 +32,9 @@ use Rattle.tests_worked.specs.OneStrict.{idle}
 use Rattle.tests_worked.specs.OtherSeat as other
 use Rattle.tests_worked.specs.SmallBlock as small
 use Rattle.tests_worked.specs.SmallFiles as files
+use Rattle.lifecycle_core.proofs.phases.ActingRuns.{own_numbering}
 use Rattle.tests_worked.proofs.small.Each.{each_of, workers_seats}
+use Rattle.tests_worked.proofs.small.Texts.{one_lawful}
 use Rattle.tests_worked.proofs.one.OneBlock.{first_ends, first_own, first_tasks, first_workers, gateway, second_tasks, second_workers, uploader}
 use Rattle.tests_worked.proofs.small.SmallCalls.{answer, call_run, left, up_asked}
 use Rattle.tests_worked.proofs.small.SmallTasks.{sync_run, upload_task}
@@ -168,8 +170,7 @@ kept = record {
 pub acts : IsActing one.setting other.journal
 acts = record {
   seats = seats;
-  above = λ seat more. more;
-  apart = λ one other same. same;
+  numbered = own_numbering one.setting one_lawful;
   ends = first_ends ∷ [] ∷ [];
   kept = kept;
   phases = phases;

@@ -1,6 +1,9 @@
 use Rattle.std.proofs.Common.{sym}
-use Rattle.compactor.proofs.Refusing.{shown_at}
+use Rattle.compactor.proofs.Refusing.{shown_at, names_chunk}
 use Rattle.compactor.proofs.merging.number_of.Goals as goal
+
+pub place_of-requires : goal.place_of-requires
+place_of-requires c = names_chunk c.args.block.now c.args.cause c.in-BadChunk.series c.in-BadChunk.chunk c.in-BadChunk.cause c.bytes.result.now c.in-BadChunk.is c.requires c.bytes.ensures
 
 pub returns-in-Some : goal.returns-in-Some
 returns-in-Some c =

@@ -4,5 +4,5 @@ use Rattle.compactor.proofs.merging.refused_at.Goals as goal
 
 pub returns : goal.returns
 returns c =
-    refused_result c.number_of.result c.args.blocks.now c.args.numbers.now c.args.place c.requires.0 c.args.cause c.in-Some.block.now c.in-Some-get.read.now
-    (omega (arith, c.if-place-eq4294967295.false, c.ranges.place.fits)) c.requires.2 c.requires.1 (sym c.in-Some.ensures) (sym c.in-Some-get.ensures) c.number_of.ensures
+    refused_result c.number_of.result c.args.blocks.now c.args.numbers.now c.args.place c.requires.refused.0 c.args.cause c.in-Some.block.now c.in-Some-get.read.now
+    (omega (arith, c.if-place-eq4294967295.false, c.ranges.place.fits)) c.requires.refused.2 c.requires.refused.1 (sym c.in-Some.ensures) (sym c.in-Some-get.ensures) c.number_of.ensures

@@ -1,5 +1,5 @@
-use Rattle.std.proofs.Common.{◌≡◌, subst}
-use Rattle.std.specs.Prelude.{IfErr, IfSome, MatchResult}
+use Rattle.std.proofs.Common.{◌≡◌, inl, refl, subst}
+use Rattle.std.specs.Prelude.{IfErr, IfSome, MatchResult, Some}
 use Rattle.call_verdicts.specs.script_running.specs.Shelves.{AreAllAtHand, setting_by}
 use Rattle.call_verdicts.specs.Checks.{HasFailed, files_of}
 use Rattle.call_verdicts.specs.Outside.{outside, site_call}
@@ -8,8 +8,8 @@ use Rattle.call_verdicts.specs.Verdicts.{IfShort}
 use Rattle.call_verdicts.specs.Words.{named_by}
 use Rattle.call_verdicts.proofs.Noted.{undone_noted}
 use Rattle.call_verdicts.proofs.ShelfReads.{ok_is, told_of_call}
-use Rattle.call_verdicts.proofs.Verdicts.{worked_undone}
-use Rattle.replay_cli.specs.Calls.{around_run}
+use Rattle.call_verdicts.proofs.Verdicts.{is_named, worked_undone}
+use Rattle.replay_cli.specs.Calls.{around_run, run_names}
 use Rattle.replay_cli.specs.Ways.{is_done_by, tells_by}
 use Rattle.replay_cli.proofs.Calls.{is_open, none_done, unread}
 use Rattle.replay_cli.proofs.preparing.prepare.Goals as goal
@@ -19,7 +19,7 @@ use Rattle.replay_cli.proofs.preparing.prepare.Goals as goal
 pub returns-in-Ok-read : goal.returns-in-Ok-read
 returns-in-Ok-read g c =
     let o = outside (g.R.Source.told c.args.script.now) (g.R.Source.told c.read_and_open.new.script) (site_call (g.S.Site.told c.args.site.now) (g.S.Site.told c.read_and_open.new.site) g.S.Store.Bucket.told g.S.Files.Shelf.told) in
-    let word = named_by c.args.shelf.now in
+    let word = named_by c.args.named.now.shelf.now in
     let script = c.in-Ok.field-0.script in
     let before = c.in-Ok.field-0.shelf in
     let ready = c.in-Ok.ensures.ready in
@@ -34,7 +34,7 @@ returns-in-Ok-read g c =
         tick = opened.new.tick;
         asked = opened.new.asked;
       };
-      opened = is_open o c.args.bucket.now word script c.in-Ok.field-0.world before after ready.read ready.source opened.site opened.buckets opened.empty opened.new.unfailed
+      opened = is_open o c.args.named.now.bucket.now word script c.in-Ok.field-0.world before after ready.read ready.source opened.site opened.buckets opened.empty opened.new.unfailed
           opened.own.named opened.own.of c.read_blocks-read.ensures.same (c.read_blocks-read.ensures.asked opened.own.unasked);
       told = ok_is read _ (λ blocks. IfSome (files_of o.site.files o.site.before word after) (IsOfShelf (setting_by script blocks))) c.in-Ok-read.is
           (told_of_call o.site.files o.site.before word before after script read opened.own.named opened.own.of.back c.read_blocks-read.ensures.same c.read_blocks-read.ensures.told);
@@ -46,15 +46,15 @@ returns-in-Ok-read g c =
 pub returns-in-Err-read : goal.returns-in-Err-read
 returns-in-Err-read g c = λ way.
     let o = outside (g.R.Source.told c.args.script.now) (g.R.Source.told c.read_and_open.new.script) (site_call (g.S.Site.told c.args.site.now) (g.S.Site.told c.read_and_open.new.site) g.S.Store.Bucket.told g.S.Files.Shelf.told) in
-    let word = named_by c.args.shelf.now in
+    let word = named_by c.args.named.now.shelf.now in
     let script = c.in-Ok.field-0.script in
     let world = c.in-Ok.field-0.world in
     let before = c.in-Ok.field-0.shelf in
     let ready = c.in-Ok.ensures.ready in
     let opened = ready.opened in
     let after = c.read_blocks-read.result.1 in
-    unread o c.args.bucket.now word way script world c.unbegun.result.world c.unbegun.result.note before after c.in-Err-read.verdict c.end_run.result c.unbegun.ensures.world c.unbegun.ensures.note ready.lawful
-    (is_open o c.args.bucket.now word script world before after ready.read ready.source opened.site opened.buckets opened.empty opened.new.unfailed
+    unread o c.args.named.now.bucket.now word way script world c.unbegun.result.world c.unbegun.result.note before after c.in-Err-read.verdict c.end_run.result c.unbegun.ensures.world c.unbegun.ensures.note ready.lawful
+    (is_open o c.args.named.now.bucket.now word script world before after ready.read ready.source opened.site opened.buckets opened.empty opened.new.unfailed
     opened.own.named opened.own.of c.read_blocks-read.ensures.same (c.read_blocks-read.ensures.asked opened.own.unasked))
     opened.new.journal opened.new.asked opened.own.unfailed
     (subst (λ r. IfErr r (IsBrokenOff (HasFailed o.site.files before after))) c.in-Err-read.is c.read_blocks-read.ensures.broken)
@@ -65,15 +65,15 @@ pub returns-in-Err : goal.returns-in-Err
 returns-in-Err g c = λ way.
     let o = outside (g.R.Source.told c.args.script.now) (g.R.Source.told c.read_and_open.new.script) (site_call (g.S.Site.told c.args.site.now) (g.S.Site.told c.read_and_open.new.site) g.S.Store.Bucket.told g.S.Files.Shelf.told) in
     let ended = c.in-Err.ended in
-    let around = around_run way o c.args.bucket.now (named_by c.args.shelf.now) ended in
+    let around = around_run way o (run_names c.args.named.now.bucket.now (named_by c.args.named.now.shelf.now)) ended in
     let is = c.in-Err.ensures.ended in
     record {
-      cause = worked_undone around (is_done_by way) ended.conclusion.verdict (none_done way) is.cause;
-      short = is.short;
+      cause = (inl (is_named c.args.named.now.bucket.now (Some c.args.named.now.bucket.now) refl, refl, worked_undone around (is_done_by way) ended.conclusion.verdict (none_done way) is.cause), is.short);
       handed = is.handed;
       kept = is.kept;
       back = is.back;
       untouched = is.untouched;
+      closed = λ none. absurd (cc (none));
       asked_bucket = is.asked;
       noted = undone_noted (tells_by way) o.site.store around ended.conclusion.verdict ended.conclusion.store ended.note is.note is.opened is.cause;
       shelf = is.of;

@@ -32,19 +32,19 @@ returns-in-Ok g c =
     let came = c.with_wanted-came.result in
     let world = c.of_closed.result.world in
     let over = c.of_closed.ensures.world in
-    let is = told_as c.wanted_memory.result known.wanted c.in-Ok.came came c.wanted_memory.ensures c.with_wanted-came.ensures in
-    let short = short_told known.wanted c.in-Ok.came came v is c.verdict_of-verdict.ensures.none in
+    let is = told_as c.wanted_memory.result known.wanted c.in-Ok.end.came came c.wanted_memory.ensures c.with_wanted-came.ensures in
+    let short = short_told known.wanted c.in-Ok.end.came came v is c.verdict_of-verdict.ensures.none in
     let bytes = subst IsOfBytes (ap (λ w. w.journal) (c.world-world.ensures ∙ sym over)) c.journal-journal.ensures.holds.bytes in
     record {
-      cause = beside_told (setting_by c.args.script.now c.args.shelf.now) c.requires.may.lawful world.journal bytes c.in-Ok.ensures.ran.0 c.in-Ok.report.lines known.wanted c.in-Ok.came came v is
-          (told_by (λ report. report.lines) c.args.script.now c.in-Ok.report c.in-Ok.ensures.ran.0 c.in-Ok.came c.in-Ok.ensures.ran.2)
-          (subst (λ (es : List Entry). HasRunBeside (setting_by c.args.script.now c.args.shelf.now) es c.in-Ok.ensures.ran.0 c.in-Ok.came) (sym (ap (λ w. w.journal) over)) c.in-Ok.ensures.ran.1)
-          (ends_over c.args.script.now c.entries.result.now world.journal c.in-Ok.report.lines v (c.entries.ensures ∙ c.journal-journal.ensures.journal ∙ ap (λ w. w.journal) c.world-world.ensures ∙ sym (ap (λ w. w.journal) over)) c.verdict_of-verdict.ensures.whole)
+      cause = beside_told (setting_by c.args.script.now c.args.shelf.now) c.requires.may.lawful world.journal bytes c.in-Ok.ensures.ran.0 c.in-Ok.end.report.lines known.wanted c.in-Ok.end.came came v is
+          (told_by (λ report. report.lines) c.args.script.now c.in-Ok.end.report c.in-Ok.ensures.ran.0 c.in-Ok.end.came c.in-Ok.ensures.ran.2)
+          (subst (λ (es : List Entry). HasRunBeside (setting_by c.args.script.now c.args.shelf.now) es c.in-Ok.ensures.ran.0 c.in-Ok.end.came) (sym (ap (λ w. w.journal) over)) c.in-Ok.ensures.ran.1)
+          (ends_over c.args.script.now c.entries.result.now world.journal c.in-Ok.end.report.lines v (c.entries.ensures ∙ c.journal-journal.ensures.journal ∙ ap (λ w. w.journal) c.world-world.ensures ∙ sym (ap (λ w. w.journal) over)) c.verdict_of-verdict.ensures.whole)
           c.verdict_of-verdict.ensures.full c.verdict_of-verdict.ensures.none;
       unfailed = λ none. ap (λ w. (g.B.Bucket.told w.bucket).faults) over ∙ c.in-Ok.ensures.unfailed (sym (ap (λ w. failed_count w.journal) over) ∙ none);
       all = λ never before was. subst (IsAllAsked g.B.Bucket.told before) (sym over) (c.in-Ok.ensures.all (unwanted_by known.wanted v never short) before was);
       noted = noted_world met_alone g.B.Bucket.told v world known.refused known.wanted c.of_closed.result.note c.of_closed.ensures.note
-          (alone_told known.refused known.wanted c.in-Ok.came came v c.in-Ok.ensures.refused is (full_told c.args.script.now c.entries.result.now c.in-Ok.report.lines came v c.verdict_of-verdict.ensures.whole c.verdict_of-verdict.ensures.full c.verdict_of-verdict.ensures.none))
+          (alone_told known.refused known.wanted c.in-Ok.end.came came v c.in-Ok.ensures.refused is (full_told c.args.script.now c.entries.result.now c.in-Ok.end.report.lines came v c.verdict_of-verdict.ensures.whole c.verdict_of-verdict.ensures.full c.verdict_of-verdict.ensures.none))
           short
           (λ never. run_asked g.B.Bucket.told c.args.world world c.requires.may.fresh c.requires.may.asked (λ before was. subst (IsAllAsked g.B.Bucket.told before) (sym over) (c.in-Ok.ensures.all never before was)));
     }

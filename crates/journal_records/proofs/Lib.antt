@@ -1,0 +1,16 @@
+pub mod EntriesTied
+pub mod EntryNumbers
+pub mod FewMembers
+pub mod FieldsTied
+pub mod FourParts
+pub mod KeptBytes
+pub mod ManyTied
+pub mod OpsTied
+pub mod PartSizes
+pub mod RecordTied
+pub mod RepliesTied
+pub mod Standing
+pub mod Texts
+pub mod UlidsTied
+pub mod Writables
+pub mod WrittenTied

@@ -1,0 +1,7 @@
+use Rattle.std.proofs.Common.{◌∙◌}
+use Rattle.std.specs.Int.{w64}
+use Rattle.journal_records.proofs.KeptBytes.{number_keeps}
+use Rattle.journal_records.proofs.reader.Reader.next_u64.Goals as goal
+
+pub invariant_of-self : goal.invariant_of-self
+invariant_of-self c = number_keeps w64 _ _ _ c.take_u64.ensures.exact ∙ c.self.invariant

@@ -1,0 +1,15 @@
+pub use Rattle.base.specs.Reading
+pub use Rattle.base.specs.Members
+pub use Rattle.wire_bytes.specs.Position
+pub use Rattle.wire_bytes.specs.Fields
+pub use Rattle.wire_bytes.specs.Crc
+pub use Rattle.block_keys.specs.KeyText
+pub use Rattle.world_core.specs.Journals
+pub use Rattle.world_core.specs.Operations
+pub mod Limits
+pub mod RecordText
+pub mod FieldReading
+pub mod RecordReading
+pub mod RecordWritten
+pub mod Writable
+pub mod Bounds
