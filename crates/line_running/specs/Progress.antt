@@ -35,7 +35,7 @@ pub record PartStep (setting : Setting) (seat : Hand → ℕ) (place : ℕ) (tas
   pub run : TaskRun setting (who_does seat hand) place task.work (holding_of views (gateway_of hand)) made end after
   pub shows : WhenDone came (AreSeen (with_holding views (gateway_of hand) after) gateways)
   pub by : CameBy task.work end came
-  pub due : WhenFull came (IsDueAfter (Does setting (who_does seat hand) place task.work (holding_of views (gateway_of hand))) (seat hand) made)
+  pub due : WhenFull came (IsDueAfter (Does (TaskRun setting (who_does seat hand) place task.work (holding_of views (gateway_of hand)))) (seat hand) made)
 
 -- the task has come to all its ends, or the full journal left one out
 abbrev pub IsWhole : Setting → ℕ → Task → List End → Result Outcome Broken → Type 0

@@ -8,8 +8,9 @@ ghost use Rattle.script_workers.specs.declared.work.Work.{Work};
 ghost use Rattle.report_lines.specs.lifecycle_core.specs.Conducts.{Who};
 ghost use Rattle.report_lines.specs.lifecycle_core.specs.Holdings.{Holding, Holdings};
 ghost use Rattle.report_lines.specs.lifecycle_core.specs.InLine.{seat_of};
+ghost use Rattle.report_lines.specs.lifecycle_core.specs.Tasks.{TaskRun};
 ghost use Rattle.report_lines.specs.script_running.specs.Lending.{setting_in};
-ghost use Rattle.report_lines.specs.script_running.specs.Outcomes.{AreAllParts, IsOutcomeOf};
+ghost use Rattle.report_lines.specs.script_running.specs.Outcomes.{AreAllParts, IsOutcomeOf, IsPart};
 ghost use Rattle.report_lines.specs.script_running.specs.Sights.{Sees};
 ghost use Rattle.report_lines.specs.script_running.specs.Tasks.{Allows, HasDone, is_full_came};
 ghost use Rattle.run_notes.specs.LineHands.{KeepsRun};
@@ -180,7 +181,7 @@ fn do_over<B: Bucket>(
         result.1.opened.value result.1.wanted result.1.world }
     ensures done { (who : Who) (place : ℕ) (held : Holding) → who.gateway ≡ gateway
         → Sees held sight.old
-        → HasDone (setting_in means.now) who place work.now held seat
+        → HasDone (TaskRun (setting_in means.now) who place work.now held) (IsPart work.now) seat
         hand.world.journal result.1.world.journal sight.new result.0 }
 {
     let mut hand = hand.at_seat(seat);
