@@ -15,3 +15,4 @@ pub mod Unopened
 pub mod Noted
 pub mod Saying
 pub mod OneReport
+pub mod OneShelf

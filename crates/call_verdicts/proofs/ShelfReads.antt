@@ -37,7 +37,7 @@ use Rattle.report_lines.specs.script_running.specs.declared.shelf.ShelfFound.The
 use Rattle.call_verdicts.specs.Asked.{names_asked, AreNamesOf, WasAsked, WasRead, WasReadFor, is_on_shelf, shelf_ulids}
 use Rattle.call_verdicts.specs.Checks.{HasFailed, files_held, files_in, files_of}
 use Rattle.call_verdicts.specs.Kept.{IsShelfBack, told_of}
-use Rattle.call_verdicts.specs.ShelfReads.{AreRead, AsksFor, IsBrokenOff, IsFoundOf, IsOfShelf, IsReadBy, IsReadNext, IsReadOf, WhyUnread}
+use Rattle.call_verdicts.specs.ShelfReads.{AreRead, AsksFor, IsBrokenOff, IsFoundOf, IsOfShelf, IsReadBy, IsReadNext, IsReadOf, TakesNone, WhyUnread}
 use Rattle.call_verdicts.specs.Verdicts.{IfShort, IsScriptRead}
 use Rattle.call_verdicts.specs.declared.verdict.Verdict.{Verdict}
 use Rattle.call_verdicts.proofs.FilesTold.{files_back}
@@ -163,7 +163,7 @@ there_last read one block same is =
     (y.0.found, ap (option_map (λ (b : ShelfBlock). b.found)) y.1)
 
 abbrev IsOneOf : Option Contents → List Block → ShelfBlock → Type 0
-IsOneOf told blocks one = (block : Block) × Contains blocks block × IsFoundOf told block one
+IsOneOf told blocks one = (block : Block) × Contains blocks block × IsFoundOf told block one × (block.body ≡ OnShelf)
 
 pub none_read : (told : Option Contents) (blocks : List Block) → AreRead told (take 0 blocks) []
 none_read told blocks = subst (λ (bs : List Block). AreRead told bs []) (sym (take_none blocks)) (record { each = All-nil (IsOneOf told []); whole = All-nil (IsThere []) })
@@ -178,7 +178,7 @@ one_read told front block old new are (inr (is, one, same, found)) =
     subst (AreRead told (front ++ block ∷ [])) (sym same) (record {
       each = All-append (IsOneOf told (front ++ block ∷ [])) old (one ∷ [])
           (All-weaker (IsOneOf told front) (IsOneOf told (front ++ block ∷ [])) (λ x own. (own.0, Contains-append_left front (block ∷ []) own.0 own.1, own.2)) old are.each)
-          (All-cons (IsOneOf told (front ++ block ∷ [])) one [] (block, Contains-append_right front (block ∷ []) block (contains_first block []), found) (All-nil (IsOneOf told (front ++ block ∷ []))));
+          (All-cons (IsOneOf told (front ++ block ∷ [])) one [] (block, Contains-append_right front (block ∷ []) block (contains_first block []), found, is) (All-nil (IsOneOf told (front ++ block ∷ []))));
       whole = All-append (IsThere (old ++ one ∷ [])) front (block ∷ []) (All-weaker (IsThere old) (IsThere (old ++ one ∷ [])) (λ b there. there_more old (one ∷ []) b there) front are.whole)
           (All-cons (IsThere (old ++ one ∷ [])) block [] (there_last old one block found.ulid) (All-nil (IsThere (old ++ one ∷ []))));
     })
@@ -228,14 +228,26 @@ module _ (told : Option Contents) (script : Script) (read : List ShelfBlock) (la
   pub all_at_hand : AreAllAtHand script read
   all_at_hand = All-weaker (Contains script.blocks) (IsAtHand read) (λ block among is. hand_by block among (found_in read block.ulid) refl) script.blocks (All-contains_itself script.blocks)
 
+-- for a block that the script does not take from the shelf nothing was read
+none_found : (told : Option Contents) (blocks : List Block) (read : List ShelfBlock) (ulid : ℕ) → AreRead told blocks read → TakesNone blocks ulid → (o : Option ShelfFound) → found_in read ulid ≡ o → found_in read ulid ≡ None
+none_found told blocks read ulid are none None is = is
+none_found told blocks read ulid are none (Some found) is =
+    let o = option_from (find (HasUlid ulid) read) found is in
+    let own : IsOneOf told blocks o.0 = find_holds (IsOneOf told blocks) (HasUlid ulid) read o.0 are.each o.1 in
+    let hit : (o.0.ulid == ulid) ≡ true = find_passes (HasUlid ulid) read o.0 o.1 in
+    let same : o.0.ulid ≡ ulid = grind (arith, nat_tests, hit) in
+    absurd (none own.0 own.1 own.3 (sym own.2.ulid ∙ same))
+
 pub all_told : (told : Option Contents) (script : Script) (read : List ShelfBlock) → IsLawfulScript script → AreRead told script.blocks read → IfSome told (IsOfShelf (setting_by script read))
 all_told None script read lawful are = tt
-all_told (Some files) script read lawful are =
-    All-weaker (Contains script.blocks) (λ (block : Block). block.body ≡ OnShelf → IsReadOf files block.ulid (read_as block.ulid (found_in read block.ulid)))
-    (λ block among is.
-    let t = All-contains (IsThere read) script.blocks block are.whole among is in
-    subst (λ (o : Option ShelfFound). IsReadOf files block.ulid (read_as block.ulid o)) (sym t.1) (own_found (Some files) script read lawful are block among t.0 t.1).1)
-    script.blocks (All-contains_itself script.blocks)
+all_told (Some files) script read lawful are = record {
+  taken = All-weaker (Contains script.blocks) (λ (block : Block). block.body ≡ OnShelf → IsReadOf files block.ulid (read_as block.ulid (found_in read block.ulid)))
+      (λ block among is.
+      let t = All-contains (IsThere read) script.blocks block are.whole among is in
+      subst (λ (o : Option ShelfFound). IsReadOf files block.ulid (read_as block.ulid o)) (sym t.1) (own_found (Some files) script read lawful are block among t.0 t.1).1)
+      script.blocks (All-contains_itself script.blocks);
+  others = λ ulid none. ap (read_as ulid) (none_found (Some files) script.blocks read ulid are none (found_in read ulid) refl);
+}
 
 -- ---- without a shelf
 
@@ -243,8 +255,10 @@ pub none_at_hand : (script : Script) → AreAllAtHand script []
 none_at_hand script = All-weaker (Contains script.blocks) (IsAtHand []) (λ block among is. tt) script.blocks (All-contains_itself script.blocks)
 
 pub none_told : (script : Script) → IsOfShelf (setting_by script []) nothing
-none_told script =
-    All-weaker (Contains script.blocks) (λ (block : Block). block.body ≡ OnShelf → IsReadOf nothing block.ulid (read_as block.ulid None)) (λ block among is. inl (refl, refl)) script.blocks (All-contains_itself script.blocks)
+none_told script = record {
+  taken = All-weaker (Contains script.blocks) (λ (block : Block). block.body ≡ OnShelf → IsReadOf nothing block.ulid (read_as block.ulid None)) (λ block among is. inl (refl, refl)) script.blocks (All-contains_itself script.blocks);
+  others = λ ulid none. refl;
+}
 
 -- ---- the shelf of a call
 

@@ -1,6 +1,8 @@
 -- What a call reads of the shelf for the blocks of its script.
-use Rattle.std.specs.Prelude.{◌≡◌, ◌≢◌, ◌⊎◌, ℕ, List, [], ◌∷◌, ◌++◌, All, Contains, Option, Some, IfSome, Result, Ok, Err}
+use Rattle.std.specs.Prelude.{◌≡◌, ◌≢◌, ◌⊎◌, ℕ, List, [], ◌∷◌, ◌++◌, All, Contains, IsBytes, Option, Some, IfSome, Result, Ok, Err}
+use Rattle.block_keys.specs.declared.key.Key.TheVariants.{Meta}
 use Rattle.block_content.specs.Checked.{checked_files}
+use Rattle.block_content.specs.declared.check_refusal.CheckRefusal.TheVariants.{NoFile}
 use Rattle.block_content.specs.declared.checked.Checked.{Checked}
 use Rattle.block_loading.specs.declared.load_refusal.LoadRefusal.{LoadRefusal}
 use Rattle.block_loading.specs.declared.load_refusal.LoadRefusal.TheVariants as load
@@ -27,9 +29,18 @@ abbrev pub IsReadOf : Contents → ℕ → FromShelf → Type 0
 IsReadOf told ulid (holding files series) = PassesOnShelf told ulid files series
 IsReadOf told ulid (refusing refusal) = RefusesOnShelf told ulid refusal
 
--- so it is of each block that the script takes from the shelf
-abbrev pub IsOfShelf : Setting → Contents → Type 0
-IsOfShelf setting told = All (λ block. block.body ≡ OnShelf → IsReadOf told block.ulid (setting.shelf block.ulid)) setting.script.blocks
+-- the script takes no block with this ULID from the shelf
+abbrev pub TakesNone : List Block → ℕ → Type 0
+TakesNone blocks ulid = (block : Block) → Contains blocks block → block.body ≡ OnShelf → block.ulid ≢ ulid
+
+-- So it is of each block that the script takes from the shelf. For any other nothing was read.
+pub record IsOfShelf (setting : Setting) (told : Contents) : Type 0 where
+  pub taken : All (λ block. block.body ≡ OnShelf → IsReadOf told block.ulid (setting.shelf block.ulid)) setting.script.blocks
+  pub others : (ulid : ℕ) → TakesNone setting.script.blocks ulid → setting.shelf ulid ≡ refusing (NoFile (Meta ulid))
+
+-- all that a shelf tells of its files is bytes
+abbrev pub HoldsBytes : Contents → Type 0
+HoldsBytes told = (name bytes : List ℕ) → told name ≡ Some bytes → IsBytes bytes
 
 -- ---- one block
 
@@ -73,5 +84,5 @@ IsReadNext told block old new =
 
 -- These blocks were read, those of them that are taken from the shelf.
 pub record AreRead (told : Option Contents) (blocks : List Block) (read : List ShelfBlock) : Type 0 where
-  pub each : All (λ (one : ShelfBlock). (block : Block) × Contains blocks block × IsFoundOf told block one) read
+  pub each : All (λ (one : ShelfBlock). (block : Block) × Contains blocks block × IsFoundOf told block one × (block.body ≡ OnShelf)) read
   pub whole : All (λ (block : Block). block.body ≡ OnShelf → (found : ShelfFound) × (found_in read block.ulid ≡ Some found)) blocks

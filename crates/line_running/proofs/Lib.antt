@@ -1,5 +1,4 @@
-pub mod Keeping
-pub mod Wanted
+pub mod Turns
 pub mod Steps
 pub mod Told
 pub mod SeatLists

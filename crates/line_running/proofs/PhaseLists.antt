@@ -1,9 +1,9 @@
 -- Phases that were done one after another.
-use Rattle.std.proofs.Common.{◌≡◌, ℕ, zero, suc, ◌+◌, ◌-◌, ◌<◌, List, [], ◌∷◌, ◌++◌, length, take, drop, refl, sym, ◌∙◌, ap, subst, inr, append_assoc, take-append-drop, arith}
+use Rattle.std.proofs.Common.{◌≡◌, ℕ, zero, suc, ◌+◌, ◌-◌, ◌<◌, List, [], ◌∷◌, ◌++◌, length, take, drop, get_or, refl, sym, ◌∙◌, ap, subst, inr, append_assoc, take-append-drop, arith}
 use Rattle.std.specs.Prelude.{◌≢◌, ◌^◌, min, Some, Result, Ok, Err, OnErr, OnOk, slice_get}
 use Rattle.std.specs.List.{All}
 use Rattle.std.proofs.lemmas.List.{append-nil, length-append, length-take}
-use Rattle.std.proofs.lemmas.Option.{slice_get_within, get_or_from_slice_get}
+use Rattle.std.proofs.lemmas.Option.{slice_get_within, slice_get-get_or, get_or_from_slice_get}
 use Rattle.world_core.specs.Operations.{entry_of}
 use Rattle.world_core.specs.Worlds.{IsJournal, IsOfBytes}
 use Rattle.world_core.specs.declared.entry.Entry.{Entry}
@@ -43,6 +43,11 @@ drop_at : (phases : List Phase) (place : ℕ) (phase : Phase) → slice_get phas
 drop_at [] place phase at = absurd (cc (at))
 drop_at (p ∷ ps) zero phase at = let same : p ≡ phase = cc (at) in ap (λ (x : Phase). x ∷ ps) same
 drop_at (p ∷ ps) (suc place) phase at = let e : suc place + 1 ≡ suc (place + 1) = omega arith in rw e (drop_at ps place phase at)
+
+-- the phase at a place of a list that was lent
+pub phase_at : (phases lent : List Phase) (place : ℕ) (phase : Phase) → lent ≡ phases → place < length phases → phase ≡ get_or lent place phase → slice_get phases place ≡ Some phase
+phase_at phases lent place phase same within is =
+    slice_get-get_or phases place phase within ∙ ap (λ (p : Phase). Some p) (ap (λ (ps : List Phase). get_or ps place phase) (sym same) ∙ sym is)
 
 -- ---- what phases told
 

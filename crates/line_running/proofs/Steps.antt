@@ -1,6 +1,6 @@
 -- One task of a script: its parts, one after another, and what it came to.
 use Rattle.std.proofs.Common.{◌≡◌, ◌≢◌, ℕ, ℤ, zero, suc, ◌+◌, ◌<◌, ◌≤◌, Bool, true, false, List, [], ◌∷◌, ◌++◌, length, length-append, map, drop, refl, sym, ◌∙◌, ap, subst, inl, inr, arith, append_assoc}
-use Rattle.std.specs.Prelude.{◌==◌, Option, Some, None, option_map, slice_get, IfOk, IfSome, Result, Ok, Err}
+use Rattle.std.specs.Prelude.{◌==◌, if◌then◌else◌, Option, Some, None, option_map, slice_get, IfOk, IfSome, Result, Ok, Err}
 use Rattle.std.specs.List.{All, AllZip, range_with_len}
 use Rattle.std.proofs.Math.ListN.{set}
 use Rattle.std.proofs.lemmas.List.Elements.{All-cons, All-nil, All-push}
@@ -14,7 +14,8 @@ use Rattle.world_core.specs.Operations.{entry_of}
 use Rattle.world_core.specs.declared.entry.Entry.{Entry}
 use Rattle.script_core.specs.Lawful.{IsLawfulScript, IsLawfulWork}
 use Rattle.script_core.specs.declared.script.Script.{Script}
-use Rattle.script_workers.specs.Hands.{gateway_count, gateway_of, hands_of_task}
+use Rattle.script_workers.specs.Hands.{gateway_count, gateway_of, hands_of_task, own_hand}
+use Rattle.script_workers.specs.Works.{asks_all}
 use Rattle.script_workers.specs.declared.hand.Hand.{Hand}
 use Rattle.script_workers.specs.declared.hand.Hand.TheVariants as hands
 use Rattle.script_workers.specs.declared.task.Task.{Task}
@@ -119,26 +120,14 @@ hand_within gateways place number (works.Query low high selector) hand at within
     asked_within all first (suc count) (suc number) hand at few = asked_within all (first + 1) count number hand at (omega (arith, few))
 
 -- so many do a task
-pub count_of_upload : (gateways place ulid : ℕ) (stop : Option ℕ) (w : Work) → w ≡ works.Upload ulid stop → ◌≡◌ {A = ℕ} 1 (length (hands_of_task gateways place w))
+pub count_all : (gateways place : ℕ) (w : Work) → asks_all w ≡ true → gateways ≡ length (hands_of_task gateways place w)
 unfolding hands_of_task
-count_of_upload gateways place ulid stop w is = ap (λ (x : Work). length (hands_of_task gateways place x)) (sym is)
+count_all gateways place w all =
+    subst (λ (b : Bool). gateways ≡ length (if b then map hands.Gateway (range_with_len 0 gateways) else own_hand place w ∷ [])) (sym all) (sym (length-map-range_with_len hands.Gateway 0 gateways))
 
-pub count_of_compaction : (gateways place : ℕ) (stop : Option ℕ) (w : Work) → w ≡ works.Compact stop → ◌≡◌ {A = ℕ} 1 (length (hands_of_task gateways place w))
+pub count_one : (gateways place : ℕ) (w : Work) → asks_all w ≡ false → ◌≡◌ {A = ℕ} 1 (length (hands_of_task gateways place w))
 unfolding hands_of_task
-count_of_compaction gateways place stop w is = ap (λ (x : Work). length (hands_of_task gateways place x)) (sym is)
-
-pub count_of_cleaning : (gateways place : ℕ) (stop : Option ℕ) (w : Work) → w ≡ works.Clean stop → ◌≡◌ {A = ℕ} 1 (length (hands_of_task gateways place w))
-unfolding hands_of_task
-count_of_cleaning gateways place stop w is = ap (λ (x : Work). length (hands_of_task gateways place x)) (sym is)
-
-pub count_of_sync : (gateways place gateway : ℕ) (w : Work) → w ≡ works.Sync gateway → ◌≡◌ {A = ℕ} 1 (length (hands_of_task gateways place w))
-unfolding hands_of_task
-count_of_sync gateways place gateway w is = ap (λ (x : Work). length (hands_of_task gateways place x)) (sym is)
-
-pub count_of_query : (gateways place : ℕ) (low high : ℤ) (selector : ℕ) (w : Work) → w ≡ works.Query low high selector → gateways ≡ length (hands_of_task gateways place w)
-unfolding hands_of_task
-count_of_query gateways place low high selector w is =
-    sym (length-map-range_with_len hands.Gateway 0 gateways) ∙ ap (λ (x : Work). length (hands_of_task gateways place x)) (sym is)
+count_one gateways place w one = subst (λ (b : Bool). ◌≡◌ {A = ℕ} 1 (length (if b then map hands.Gateway (range_with_len 0 gateways) else own_hand place w ∷ []))) (sym one) refl
 
 -- and this is the hand of a number
 the_only : (hand : Hand) (number : ℕ) → number < 1 → slice_get (hand ∷ []) number ≡ Some hand
@@ -151,31 +140,17 @@ the_gateway first (suc count) zero less = let same : first ≡ first + 0 = omega
 the_gateway first (suc count) (suc number) less =
     let same : first + 1 + number ≡ first + suc number = omega arith in the_gateway (first + 1) count number (omega (arith, less)) ∙ ap (λ (n : ℕ). Some (hands.Gateway n)) same
 
-pub hand_of_upload : (gateways place number ulid : ℕ) (stop : Option ℕ) (w : Work) → w ≡ works.Upload ulid stop → number < length (hands_of_task gateways place w) → slice_get (hands_of_task gateways place w) number ≡ Some (hands.Alone place)
+pub hand_all : (gateways place number : ℕ) (w : Work) → asks_all w ≡ true → number < length (hands_of_task gateways place w) → slice_get (hands_of_task gateways place w) number ≡ Some (hands.Gateway number)
 unfolding hands_of_task
-hand_of_upload gateways place number ulid stop w is =
-    subst (λ (x : Work). number < length (hands_of_task gateways place x) → slice_get (hands_of_task gateways place x) number ≡ Some (hands.Alone place)) (sym is) (λ less. the_only (hands.Alone place) number less)
-
-pub hand_of_compaction : (gateways place number : ℕ) (stop : Option ℕ) (w : Work) → w ≡ works.Compact stop → number < length (hands_of_task gateways place w) → slice_get (hands_of_task gateways place w) number ≡ Some (hands.Alone place)
-unfolding hands_of_task
-hand_of_compaction gateways place number stop w is =
-    subst (λ (x : Work). number < length (hands_of_task gateways place x) → slice_get (hands_of_task gateways place x) number ≡ Some (hands.Alone place)) (sym is) (λ less. the_only (hands.Alone place) number less)
-
-pub hand_of_cleaning : (gateways place number : ℕ) (stop : Option ℕ) (w : Work) → w ≡ works.Clean stop → number < length (hands_of_task gateways place w) → slice_get (hands_of_task gateways place w) number ≡ Some (hands.Alone place)
-unfolding hands_of_task
-hand_of_cleaning gateways place number stop w is =
-    subst (λ (x : Work). number < length (hands_of_task gateways place x) → slice_get (hands_of_task gateways place x) number ≡ Some (hands.Alone place)) (sym is) (λ less. the_only (hands.Alone place) number less)
-
-pub hand_of_sync : (gateways place number gateway : ℕ) (w : Work) → w ≡ works.Sync gateway → number < length (hands_of_task gateways place w) → slice_get (hands_of_task gateways place w) number ≡ Some (hands.Gateway gateway)
-unfolding hands_of_task
-hand_of_sync gateways place number gateway w is =
-    subst (λ (x : Work). number < length (hands_of_task gateways place x) → slice_get (hands_of_task gateways place x) number ≡ Some (hands.Gateway gateway)) (sym is) (λ less. the_only (hands.Gateway gateway) number less)
-
-pub hand_of_query : (gateways place number : ℕ) (low high : ℤ) (selector : ℕ) (w : Work) → w ≡ works.Query low high selector → number < length (hands_of_task gateways place w) → slice_get (hands_of_task gateways place w) number ≡ Some (hands.Gateway number)
-unfolding hands_of_task
-hand_of_query gateways place number low high selector w is =
-    subst (λ (x : Work). number < length (hands_of_task gateways place x) → slice_get (hands_of_task gateways place x) number ≡ Some (hands.Gateway number)) (sym is)
+hand_all gateways place number w all =
+    subst (λ (b : Bool). number < length (if b then map hands.Gateway (range_with_len 0 gateways) else own_hand place w ∷ []) → slice_get (if b then map hands.Gateway (range_with_len 0 gateways) else own_hand place w ∷ []) number ≡ Some (hands.Gateway number)) (sym all)
     (λ less. let long = length-map-range_with_len hands.Gateway 0 gateways in let same : 0 + number ≡ number = omega arith in the_gateway 0 gateways number (omega (arith, less, long)) ∙ ap (λ (n : ℕ). Some (hands.Gateway n)) same)
+
+pub hand_one : (gateways place number : ℕ) (w : Work) → asks_all w ≡ false → number < length (hands_of_task gateways place w) → slice_get (hands_of_task gateways place w) number ≡ Some (own_hand place w)
+unfolding hands_of_task
+hand_one gateways place number w one =
+    subst (λ (b : Bool). number < length (if b then map hands.Gateway (range_with_len 0 gateways) else own_hand place w ∷ []) → slice_get (if b then map hands.Gateway (range_with_len 0 gateways) else own_hand place w ∷ []) number ≡ Some (own_hand place w)) (sym one)
+    (λ less. the_only (own_hand place w) number less)
 
 -- as many as were counted do the task
 pub counted : (script : Script) → IsLawfulScript script → (w : Work) (place : ℕ) (gateways : List Sight) (number count : ℕ) → length gateways ≡ length script.gateways → number ≡ length gateways → count ≡ length (hands_of_task number place w) → count ≡ length (hands_of_task (gateway_count script.gateways) place w)
@@ -266,7 +241,7 @@ module _ (setting : Setting) (seat : Hand → ℕ) (place : ℕ) (task : Task) (
   })
 
   both : (one two : List Entry) (old mid new : List Entry) → mid ≡ old ++ one → new ≡ mid ++ two → new ≡ old ++ (one ++ two)
-  both one two old mid new first then = then ∙ ap (λ (l : List Entry). l ++ two) first ∙ append_assoc old one two
+  both one two old mid new first later = later ∙ ap (λ (l : List Entry). l ++ two) first ∙ append_assoc old one two
 
   module _ (number : ℕ) (hand : Hand) (shown gateways : List Sight) (old mid new : List Entry) (parts : List Part) (f : Front number shown old mid parts) (at : slice_get duties number ≡ Some (own_duty hand)) where
     next : drop number duties ≡ own_duty hand ∷ drop (number + 1) duties

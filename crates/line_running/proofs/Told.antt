@@ -243,6 +243,11 @@ tasks_came setting workers all place (task ∷ tasks) ends outcomes told zipped 
 pub later_begin : (setting : Setting) (n : ℕ) (tasks : List Task) → IsLawfulScript setting.script → All (λ t. IsLawfulWork setting.script.gateways setting.script.blocks (length setting.script.selectors) t.work) tasks → All (λ t. MayBegin setting t.work) (drop n tasks)
 later_begin setting n tasks lawful all = All-drop (λ t. MayBegin setting t.work) n tasks (may_begin setting tasks lawful all)
 
+-- the same of what is lent of the script
+pub lent_begin : (loan script : Script) (shelf : List ShelfBlock) (n : ℕ) (tasks : List Task) → loan ≡ script → IsLawfulScript loan → All (λ t. IsLawfulWork loan.gateways loan.blocks (length loan.selectors) t.work) tasks → All (λ t. MayBegin (setting_by script shelf) t.work) (drop n tasks)
+lent_begin loan script shelf n tasks same lawful all =
+    later_begin (setting_by script shelf) n tasks (subst IsLawfulScript same lawful) (subst (λ (s : Script). All (λ (t : Task). IsLawfulWork s.gateways s.blocks (length s.selectors) t.work) tasks) same all)
+
 pub take_whole : (tasks : List Task) (n : ℕ) → length tasks ≤ n → take n tasks ≡ tasks
 take_whole [] zero below = refl
 take_whole [] (suc n) below = refl

@@ -1,6 +1,7 @@
 -- How far a run in the order of the lines has come, as the contracts of its parts say it.
 use Rattle.std.specs.Prelude.{◌≡◌, ◌≢◌, ℕ, ◌+◌, ◌<◌, ◌≤◌, List, [], ◌∷◌, ◌++◌, length, take, drop, All, Option, Result, Ok, Err}
 use Rattle.world_core.specs.declared.entry.Entry.{Entry}
+use Rattle.script_core.specs.Lawful.{IsLawfulScript}
 use Rattle.script_core.specs.declared.script.Script.{Script}
 use Rattle.script_workers.specs.Hands.{gateway_count, gateway_of}
 use Rattle.script_workers.specs.declared.hand.Hand.{Hand}
@@ -12,12 +13,20 @@ use Rattle.report_lines.specs.lifecycle_core.specs.Setting.{Setting}
 use Rattle.report_lines.specs.lifecycle_core.specs.Tasks.{End, TaskRun}
 use Rattle.report_lines.specs.lifecycle_core.specs.Ways.{AreInTurn, AreUnfinished, IsDue, IsDueAfter, IsOperationDue, PhasesRun}
 use Rattle.report_lines.specs.script_running.specs.Beside.{AreSeen}
+use Rattle.report_lines.specs.script_running.specs.Lending.{Loan}
 use Rattle.report_lines.specs.script_running.specs.Outcomes.{IsOutcome, Outcome, Part, PhasesTold}
-use Rattle.report_lines.specs.script_running.specs.Tasks.{CameBy, Does, WhenDone, WhenFull}
+use Rattle.report_lines.specs.script_running.specs.Tasks.{Allows, CameBy, Does, WhenDone, WhenFull}
 use Rattle.report_lines.specs.script_running.specs.declared.sight.Sight.{Sight}
 use Rattle.report_lines.specs.Telling.{tasks_of}
 use Rattle.report_lines.specs.script_running.specs.declared.came.Broken.{Broken}
 use Rattle.report_lines.specs.script_running.specs.declared.came.Broken.TheVariants as broken
+
+-- Tasks can be done: they are those of a lawful script, of which this is lent, and each of its gateways sees.
+pub record HaveMeans (script : Script) (loan : Loan) (tasks : List Task) (sights : ℕ) : Type 0 where
+  pub lent : loan.script ≡ script
+  pub lawful : IsLawfulScript loan.script
+  pub allowed : All (λ task. Allows loan.script task.work) tasks
+  pub ready : sights ≡ length loan.script.gateways
 
 -- ---- one task
 

@@ -42,7 +42,7 @@ pub fn do_in_line<B: Bucket, R: PhaseReport + Drop>(
     ensures keeps { KeepsRun B.told world false world
         result.2.opened.value result.2.wanted result.2.world }
 {
-    let hand = LineHand::new(world);
+    let mut hand = LineHand::new(world);
     let Ok(texts) = selector_texts(alloc, &script.selectors) else {
         return (Err(Broken::NoMemory), R::empty(alloc), hand);
     };
@@ -50,6 +50,6 @@ pub fn do_in_line<B: Bucket, R: PhaseReport + Drop>(
         return (Err(Broken::NoMemory), R::empty(alloc), hand);
     };
     let means = Means::lend(alloc, script, shelf, texts.members());
-    let (came, hand) = run_phases(alloc, script, &means, &mut progress, hand);
+    let came = run_phases(alloc, script, &means, &mut progress, &mut hand);
     (came, progress.into_report(), hand)
 }

@@ -1,31 +1,31 @@
 //! The phases of a script, whose tasks one hand does in the order of their lines. What a phase reports joins the rest
 //! only once it is finished, so a run that breaks off reports whole phases alone.
 
-ghost use Rattle.std.specs.Prelude.{◌≡◌, ◌≢◌, ◌++◌, ◌+◌, ◌<◌, ◌&&◌, [], ◌∷◌, true, false, length, take, List, Ok, Err, Some, IsTrue, IfOk, OnErr, OnOk, MatchResult, slice_get};
+ghost use Rattle.std.specs.Prelude.{◌≡◌, ◌++◌, ◌+◌, ◌<◌, [], ◌∷◌, length, take, List, Ok, Err, IfOk, OnErr, OnOk, MatchResult};
 ghost use Rattle.std.specs.List.{All};
 ghost use Rattle.world_core.specs.Keeping.{IsFull};
 ghost use Rattle.world_core.specs.declared.entry.Entry.{Entry};
 ghost use Rattle.world_core.specs.Limits.{moment_limit};
 ghost use Rattle.script_core.specs.Workers.{seats_before};
 ghost use Rattle.script_core.specs.Lawful.{IsLawfulScript};
+ghost use Rattle.report_lines.specs.lifecycle_core.specs.Holdings.{Holdings};
 ghost use Rattle.report_lines.specs.lifecycle_core.specs.InLine.{seat_of};
 ghost use Rattle.report_lines.specs.lifecycle_core.specs.Ways.{BeginsPhase};
-ghost use Rattle.report_lines.specs.lifecycle_core.specs.Holdings.{Holdings};
-ghost use Rattle.line_running.specs.Progress.{PhaseStep, Reached, RunCame, TasksBroken, TasksDone};
 ghost use Rattle.report_lines.specs.script_running.specs.Beside.{AreSeen};
-ghost use Rattle.report_lines.specs.script_running.specs.Sights.{no_sight};
-ghost use Rattle.report_lines.specs.script_running.specs.Tasks.{Allows, is_full_came};
-ghost use Rattle.run_notes.specs.LineHands.{KeepsRun};
 ghost use Rattle.report_lines.specs.script_running.specs.Shelves.{setting_by};
+ghost use Rattle.report_lines.specs.script_running.specs.Sights.{no_sight};
+ghost use Rattle.report_lines.specs.script_running.specs.Tasks.{is_full_came, is_short_came};
+ghost use Rattle.run_notes.specs.RunHands.{TurnedRun};
+ghost use Rattle.line_running.specs.Progress.{HaveMeans, PhaseStep, Reached, RunCame, TasksBroken, TasksDone};
 
 use crate::seats::Seats;
-use crate::tasks::do_task;
+use crate::tasks::{PhaseWork, do_task};
 use base::NoMemory;
 use bucket_core::Bucket;
 use report_lines::PhaseReport;
 use report_lines::script_running::{Broken, Means, Sight};
 use run_notes::LineHand;
-use script_core::{Phase, Script, Task};
+use script_core::{Phase, Script};
 use std::alloc::Global;
 use world_core::{Acted, Hand, Op};
 
@@ -77,214 +77,150 @@ impl<R: PhaseReport + Drop> Progress<R> {
     }
 }
 
-/// Runs the phases in order. What broke the run off, if anything did, comes with the hand.
-#[tactic(auto, using(crate::proofs::Keeping::kept, crate::proofs::Keeping::kept_on, crate::proofs::Wanted::still_unwanted))]
+/// Runs the phases in order.
 pub(crate) fn run_phases<B: Bucket, R: PhaseReport + Drop>(
     alloc: Global,
     script: &Script,
     means: &Means<'_>,
     progress: &mut Progress<R>,
-    hand: LineHand<B>,
-) -> (Result<(), Broken>, LineHand<B>)
+    hand: &mut LineHand<B>,
+) -> Result<(), Broken>
     requires lawful { IsLawfulScript script.now }
     requires lent { means.now.script ≡ script.now }
     requires ready { length progress.old.gateways.items ≡ length script.now.gateways }
-    requires unrefused { hand.refused ≡ false }
-    requires unwanted { hand.wanted ≡ false }
     requires workers { progress.old.workers ≡ seats_before script.now 0 }
     requires reached { Reached R.tells (setting_by script.now means.now.shelf) 0
-        progress.old.gateways.items hand.world.journal progress.old.report }
-    ensures full { result.0 ≡ Err Broken.Full → IsFull result.1.world.journal }
-    ensures refused { result.1.refused ≡ is_full_came result.0 }
-    ensures wanted { IsTrue result.1.wanted → result.0 ≡ Err Broken.NoMemory }
-    ensures keeps { KeepsRun B.told hand.opened.value hand.wanted hand.world
-        result.1.opened.value result.1.wanted result.1.world }
+        progress.old.gateways.items hand.old.world.journal progress.old.report }
     ensures came { RunCame R.tells (setting_by script.now means.now.shelf)
-        progress.new.gateways.items result.1.world.journal progress.new.report result.0 }
+        progress.new.gateways.items hand.new.world.journal progress.new.report result }
+    ensures hand { TurnedRun B.told hand.old hand.new (is_full_came result)
+        (is_short_came result) }
 {
-    let mut hand = hand;
-    for (place, phase) in script.phases.members().iter().enumerate() {
-        let (came, next) = run_phase(alloc, script, means, place, phase, progress, hand);
-        hand = next;
-        if let Err(broken) = came {
-            return (Err(broken), hand);
-        }
+    for place in 0..script.phases.len() {
+        run_phase(alloc, script, means, place, progress, hand)?;
     }
-    (Ok(()), hand)
+    Ok(())
 }
 
 /// Sets the clock, and then runs the tasks in the order of their lines.
-#[tactic(auto, using(crate::proofs::Keeping::kept, crate::proofs::Keeping::kept_on))]
 fn run_phase<B: Bucket, R: PhaseReport + Drop>(
     alloc: Global,
     script: &Script,
     means: &Means<'_>,
     place: usize,
-    phase: &Phase,
     progress: &mut Progress<R>,
-    hand: LineHand<B>,
-) -> (Result<(), Broken>, LineHand<B>)
+    hand: &mut LineHand<B>,
+) -> Result<(), Broken>
     requires lawful { IsLawfulScript script.now }
     requires lent { means.now.script ≡ script.now }
-    requires at { slice_get script.now.phases place ≡ Some phase.now }
+    requires within { place < length script.now.phases }
     requires ready { length progress.old.gateways.items ≡ length script.now.gateways }
-    requires unrefused { hand.refused ≡ false }
-    requires unwanted { hand.wanted ≡ false }
     requires workers { progress.old.workers ≡ seats_before script.now place }
     requires reached { Reached R.tells (setting_by script.now means.now.shelf) place
-        progress.old.gateways.items hand.world.journal progress.old.report }
-    ensures full { result.0 ≡ Err Broken.Full → IsFull result.1.world.journal }
-    ensures refused { result.1.refused ≡ is_full_came result.0 }
-    ensures wanted { IsTrue result.1.wanted → result.0 ≡ Err Broken.NoMemory }
-    ensures keeps { KeepsRun B.told hand.opened.value hand.wanted hand.world
-        result.1.opened.value result.1.wanted result.1.world }
-    ensures ready { length progress.new.gateways.items ≡ length script.now.gateways }
-    ensures workers { result.0 ≡ Ok tt
-        → progress.new.workers ≡ seats_before script.now (place + 1) }
+        progress.old.gateways.items hand.old.world.journal progress.old.report }
     ensures step { PhaseStep R.tells (setting_by script.now means.now.shelf) place
-        progress.new.gateways.items result.1.world.journal progress.new.report result.0 }
+        progress.new.gateways.items hand.new.world.journal progress.new.report result }
+    ensures hand { TurnedRun B.told hand.old hand.new (is_full_came result)
+        (is_short_came result) }
+    ensures ready { length progress.new.gateways.items ≡ length script.now.gateways }
+    ensures workers { result ≡ Ok tt
+        → progress.new.workers ≡ seats_before script.now (place + 1) }
 {
     let Ok(seats) = Seats::new(alloc, script, place, progress.workers) else {
-        return (Err(Broken::NoMemory), hand);
+        return Err(Broken::NoMemory);
     };
-    let (begun, hand) = begin_phase(phase, hand);
-    if let Err(broken) = begun {
-        return (Err(broken), hand);
-    }
-    let tasks = phase.tasks.members();
-    let (came, hand) = run_tasks(alloc, script, means, tasks, &seats, progress, hand);
-    match came {
-        Ok(lines) => {
-            progress.workers = progress.workers.saturating_add(seats.count());
-            (progress.report.join(lines), hand)
-        }
-        Err(broken) => (Err(broken), hand),
-    }
+    let phase = &script.phases.members()[place];
+    begin_phase(phase, hand)?;
+    let work = PhaseWork {
+        alloc,
+        script,
+        means,
+        tasks: phase.tasks.members(),
+        seats,
+    };
+    let sights = progress.gateways.as_mut_slice();
+    let lines = run_tasks(&work, sights, hand)?;
+    progress.workers = progress.workers.saturating_add(work.seats.count());
+    progress.report.join(lines)
 }
 
 /// Sets the clock to the moment of the phase.
-#[tactic(auto, using(crate::proofs::Keeping::kept_at, crate::proofs::Wanted::wanted_for))]
-fn begin_phase<B: Bucket>(phase: &Phase, hand: LineHand<B>) -> (Result<(), Broken>, LineHand<B>)
+fn begin_phase<B: Bucket>(phase: &Phase, hand: &mut LineHand<B>) -> Result<(), Broken>
     requires moment { phase.now.moment.ms < moment_limit }
-    requires unrefused { hand.refused ≡ false }
-    requires unwanted { hand.wanted ≡ false }
-    ensures begun { OnOk result.0
-        ((clock : Entry) × BeginsPhase phase.now clock
-        × (result.1.world.journal ≡ hand.world.journal ++ clock ∷ [])) }
-    ensures unbegun { OnErr result.0 (result.1.world.journal ≡ hand.world.journal) }
-    ensures full { result.0 ≡ Err Broken.Full → IsFull result.1.world.journal }
-    ensures memory { result.0 ≡ Err Broken.NoMemory → ¬ IsFull result.1.world.journal }
-    ensures refused { result.1.refused ≡ is_full_came result.0 }
-    ensures wanted { IsTrue result.1.wanted → result.0 ≡ Err Broken.NoMemory }
-    ensures keeps { KeepsRun B.told hand.opened.value hand.wanted hand.world
-        result.1.opened.value result.1.wanted result.1.world }
+    ensures begun { OnOk result ((clock : Entry) × BeginsPhase phase.now clock
+        × (hand.new.world.journal ≡ hand.old.world.journal ++ clock ∷ [])) }
+    ensures unbegun { OnErr result (hand.new.world.journal ≡ hand.old.world.journal) }
+    ensures memory { result ≡ Err Broken.NoMemory → ¬ IsFull hand.new.world.journal }
+    ensures hand { TurnedRun B.told hand.old hand.new (is_full_came result)
+        (is_short_came result) }
 {
-    let mut hand = hand.at_seat(0);
-    let begun = match hand.act(Op::Clock(phase.moment)) {
+    hand.at_seat(0);
+    match hand.act(Op::Clock(phase.moment)) {
         Acted::Done(_) => Ok(()),
         Acted::Full => Err(Broken::Full),
         Acted::NoMemory => Err(Broken::NoMemory),
-    };
-    (begun, hand)
+    }
 }
 
 /// Runs tasks, and tells how they came out.
 fn run_tasks<B: Bucket, R: PhaseReport + Drop>(
-    alloc: Global,
-    script: &Script,
-    means: &Means<'_>,
-    tasks: &[Task],
-    seats: &Seats,
-    progress: &mut Progress<R>,
-    hand: LineHand<B>,
-) -> (Result<R, Broken>, LineHand<B>)
-    requires lawful { IsLawfulScript script.now }
-    requires lent { means.now.script ≡ script.now }
-    requires tasks { All (λ task. Allows script.now task.work) tasks.now }
-    requires ready { length progress.old.gateways.items ≡ length script.now.gateways }
-    requires unrefused { hand.refused ≡ false }
-    requires unwanted { hand.wanted ≡ false }
-    ensures full { result.0 ≡ Err Broken.Full → IsFull result.1.world.journal }
-    ensures refused { result.1.refused ≡ is_full_came result.0 }
-    ensures wanted { IsTrue result.1.wanted → result.0 ≡ Err Broken.NoMemory }
-    ensures keeps { KeepsRun B.told hand.opened.value hand.wanted hand.world
-        result.1.opened.value result.1.wanted result.1.world }
-    ensures came { (views : Holdings) → AreSeen views progress.old.gateways.items
-        → MatchResult result.0
-        (λ lines. TasksDone R.tells (setting_by script.now means.now.shelf)
-        (seat_of seats.now.workers) tasks.now views progress.new.gateways.items hand.world.journal
-        result.1.world.journal lines)
-        (λ broken. TasksBroken (setting_by script.now means.now.shelf)
-        (seat_of seats.now.workers) tasks.now views hand.world.journal result.1.world.journal
-        broken) }
-    ensures report { progress.new.report ≡ progress.old.report }
-    ensures workers { progress.new.workers ≡ progress.old.workers }
-    ensures ready { length progress.new.gateways.items ≡ length script.now.gateways }
+    phase: &PhaseWork<'_>,
+    sights: &mut [Sight],
+    hand: &mut LineHand<B>,
+) -> Result<R, Broken>
+    requires means { HaveMeans phase.now.script.now phase.now.means.now phase.now.tasks.now
+        (length sights.old) }
+    ensures came { (views : Holdings) → AreSeen views sights.old
+        → MatchResult result
+        (λ lines. TasksDone R.tells (setting_by phase.now.script.now phase.now.means.now.shelf)
+        (seat_of phase.now.seats.workers) phase.now.tasks.now views sights.new
+        hand.old.world.journal hand.new.world.journal lines)
+        (λ broken. TasksBroken (setting_by phase.now.script.now phase.now.means.now.shelf)
+        (seat_of phase.now.seats.workers) phase.now.tasks.now views
+        hand.old.world.journal hand.new.world.journal broken) }
+    ensures hand { TurnedRun B.told hand.old hand.new (is_full_came result)
+        (is_short_came result) }
+    ensures ready { length sights.new ≡ length sights.old }
 {
-    let mut hand = hand;
-    let mut lines = R::empty(alloc);
-    for place in 0..tasks.len() {
-        let (came, next) = next_task(
-            alloc, script, means, tasks, place, seats, progress, &mut lines, hand,
-        );
-        hand = next;
-        if let Err(broken) = came {
-            return (Err(broken), hand);
-        }
+    let mut lines = R::empty(phase.alloc);
+    for place in 0..phase.tasks.len() {
+        next_task(phase, place, sights, &mut lines, hand)?;
     }
-    (Ok(lines), hand)
+    Ok(lines)
 }
 
 /// Runs the task at a place, and adds its lines to those of the tasks before it.
 fn next_task<B: Bucket, R: PhaseReport + Drop>(
-    alloc: Global,
-    script: &Script,
-    means: &Means<'_>,
-    tasks: &[Task],
+    phase: &PhaseWork<'_>,
     place: usize,
-    seats: &Seats,
-    progress: &mut Progress<R>,
+    sights: &mut [Sight],
     lines: &mut R,
-    hand: LineHand<B>,
-) -> (Result<(), Broken>, LineHand<B>)
-    requires lawful { IsLawfulScript script.now }
-    requires lent { means.now.script ≡ script.now }
-    requires tasks { All (λ task. Allows script.now task.work) tasks.now }
-    requires within { place < length tasks.now }
-    requires ready { length progress.old.gateways.items ≡ length script.now.gateways }
-    requires unrefused { hand.refused ≡ false }
-    requires unwanted { hand.wanted ≡ false }
-    ensures full { result.0 ≡ Err Broken.Full → IsFull result.1.world.journal }
-    ensures refused { result.1.refused ≡ is_full_came result.0 }
-    ensures wanted { IsTrue result.1.wanted → result.0 ≡ Err Broken.NoMemory }
-    ensures keeps { KeepsRun B.told hand.opened.value hand.wanted hand.world
-        result.1.opened.value result.1.wanted result.1.world }
+    hand: &mut LineHand<B>,
+) -> Result<(), Broken>
+    requires means { HaveMeans phase.now.script.now phase.now.means.now phase.now.tasks.now
+        (length sights.old) }
+    requires within { place < length phase.now.tasks.now }
     ensures came { (views : Holdings) (start : List Entry)
-        → TasksDone R.tells (setting_by script.now means.now.shelf) (seat_of seats.now.workers)
-        (take place tasks.now) views progress.old.gateways.items start hand.world.journal
-        lines.old
-        → MatchResult result.0
-        (λ done. TasksDone R.tells (setting_by script.now means.now.shelf)
-        (seat_of seats.now.workers)
-        (take (place + 1) tasks.now) views progress.new.gateways.items start result.1.world.journal
-        lines.new)
-        (λ broken. TasksBroken (setting_by script.now means.now.shelf)
-        (seat_of seats.now.workers) tasks.now views start result.1.world.journal broken) }
-    ensures report { progress.new.report ≡ progress.old.report }
-    ensures workers { progress.new.workers ≡ progress.old.workers }
-    ensures ready { length progress.new.gateways.items ≡ length script.now.gateways }
+        → TasksDone R.tells (setting_by phase.now.script.now phase.now.means.now.shelf)
+        (seat_of phase.now.seats.workers) (take place phase.now.tasks.now) views
+        sights.old start hand.old.world.journal lines.old
+        → MatchResult result
+        (λ done. TasksDone R.tells (setting_by phase.now.script.now phase.now.means.now.shelf)
+        (seat_of phase.now.seats.workers) (take (place + 1) phase.now.tasks.now) views
+        sights.new start hand.new.world.journal lines.new)
+        (λ broken. TasksBroken (setting_by phase.now.script.now phase.now.means.now.shelf)
+        (seat_of phase.now.seats.workers) phase.now.tasks.now views start
+        hand.new.world.journal broken) }
+    ensures hand { TurnedRun B.told hand.old hand.new (is_full_came result)
+        (is_short_came result) }
+    ensures ready { length sights.new ≡ length sights.old }
 {
-    let task = &tasks[place];
-    let (came, hand) = do_task(alloc, means, task, place, seats, progress, hand);
-    match came {
-        Ok(outcome) => {
-            let told = lines.add(script, task, &outcome);
-            drop(outcome);
-            match told {
-                Ok(()) => (Ok(()), hand),
-                Err(NoMemory) => (Err(Broken::NoMemory), hand),
-            }
-        }
-        Err(broken) => (Err(broken), hand),
+    let task = &phase.tasks[place];
+    let outcome = do_task(phase, task, place, sights, hand)?;
+    let told = lines.add(phase.script, task, &outcome);
+    drop(outcome);
+    match told {
+        Ok(()) => Ok(()),
+        Err(NoMemory) => Err(Broken::NoMemory),
     }
 }

@@ -1,91 +1,82 @@
 //! One task of a script, done in the order of the lines.
 
-ghost use Rattle.std.specs.Prelude.{◌≡◌, ◌≢◌, ◌<◌, ◌^◌, ℕ, false, Err, IfOk, IfSome, IsTrue, Some, length, slice_get};
-ghost use Rattle.world_core.specs.Keeping.{IsFull};
+ghost use Rattle.std.specs.Prelude.{◌≡◌, ◌≢◌, ◌<◌, ◌^◌, ℕ, Err, IfOk, IfSome, Some, length, slice_get};
 ghost use Rattle.script_core.specs.Lawful.{IsLawfulScript};
-ghost use Rattle.script_workers.specs.Hands.{gateway_of, hands_of_task};
+ghost use Rattle.script_workers.specs.Hands.{gateway_of, hands_of_task, own_hand};
+ghost use Rattle.script_workers.specs.declared.hand.Hand.{Hand};
 ghost use Rattle.script_workers.specs.declared.work.Work.{Work};
-ghost use Rattle.report_lines.specs.lifecycle_core.specs.Conducts.{Who};
-ghost use Rattle.report_lines.specs.lifecycle_core.specs.Holdings.{Holding, Holdings};
+ghost use Rattle.report_lines.specs.lifecycle_core.specs.Holdings.{Holdings};
 ghost use Rattle.report_lines.specs.lifecycle_core.specs.InLine.{seat_of};
-ghost use Rattle.report_lines.specs.lifecycle_core.specs.Tasks.{TaskRun};
-ghost use Rattle.report_lines.specs.script_running.specs.Lending.{setting_in};
-ghost use Rattle.report_lines.specs.script_running.specs.Outcomes.{AreAllParts, IsOutcomeOf, IsPart};
-ghost use Rattle.report_lines.specs.script_running.specs.Sights.{Sees};
-ghost use Rattle.report_lines.specs.script_running.specs.Tasks.{Allows, HasDone, is_full_came};
-ghost use Rattle.run_notes.specs.LineHands.{KeepsRun};
-ghost use Rattle.line_running.specs.Progress.{PartStep, TaskStep};
 ghost use Rattle.report_lines.specs.script_running.specs.Beside.{AreSeen};
+ghost use Rattle.report_lines.specs.script_running.specs.Lending.{setting_in};
+ghost use Rattle.report_lines.specs.script_running.specs.Outcomes.{AreAllParts, IsOutcomeOf};
+ghost use Rattle.report_lines.specs.script_running.specs.Tasks.{Allows, is_full_came, is_short_came};
+ghost use Rattle.run_notes.specs.RunHands.{TurnedRun};
+ghost use Rattle.line_running.specs.Progress.{PartStep, TaskStep};
 
-use crate::phases::Progress;
 use crate::seats::Seats;
 use base::NoMemory;
 use bucket_core::Bucket;
 use querier::InTurn;
 use report_lines::script_running::{Broken, Means, Outcome, Part, Sight, outcome_of, run_task};
 use run_notes::LineHand;
-use script_core::{Hand, Task, Work};
+use script_core::{Hand, Script, Task, Work};
 use std::alloc::Global;
 
-/// Does one task, before the next one begins: those who do it come one after another, and what they came to is gathered.
-#[tactic(auto, using(crate::proofs::Keeping::kept, crate::proofs::Keeping::kept_on))]
-pub(crate) fn do_task<B: Bucket, R: Drop>(
-    alloc: Global,
-    means: &Means<'_>,
+/// The tasks of a phase, and with what they are done: what is lent of the script, and the seats of those who do them.
+#[derive(Drop)]
+pub(crate) struct PhaseWork<'a> {
+    pub alloc: Global,
+    pub script: &'a Script,
+    pub means: &'a Means<'a>,
+    pub tasks: &'a [Task],
+    pub seats: Seats,
+}
+
+/// Does the task at a place, before the next one begins: those who do it come one after another, and what they came to is gathered.
+pub(crate) fn do_task<B: Bucket>(
+    phase: &PhaseWork<'_>,
     task: &Task,
     place: usize,
-    seats: &Seats,
-    progress: &mut Progress<R>,
-    hand: LineHand<B>,
-) -> (Result<Outcome, Broken>, LineHand<B>)
-    requires lawful { IsLawfulScript means.now.script }
-    requires work { Allows means.now.script task.now.work }
-    requires ready { length progress.old.gateways.items ≡ length means.now.script.gateways }
-    requires unrefused { hand.refused ≡ false }
-    requires unwanted { hand.wanted ≡ false }
-    ensures full { result.0 ≡ Err Broken.Full → IsFull result.1.world.journal }
-    ensures refused { result.1.refused ≡ is_full_came result.0 }
-    ensures wanted { IsTrue result.1.wanted → result.0 ≡ Err Broken.NoMemory }
-    ensures keeps { KeepsRun B.told hand.opened.value hand.wanted hand.world
-        result.1.opened.value result.1.wanted result.1.world }
-    ensures step { (views : Holdings) → AreSeen views progress.old.gateways.items
-        → TaskStep (setting_in means.now)
-        (seat_of seats.now.workers) place task.now views progress.new.gateways.items
-        hand.world.journal result.1.world.journal result.0 }
-    ensures report { progress.new.report ≡ progress.old.report }
-    ensures workers { progress.new.workers ≡ progress.old.workers }
-    ensures ready { length progress.new.gateways.items ≡ length means.now.script.gateways }
+    sights: &mut [Sight],
+    hand: &mut LineHand<B>,
+) -> Result<Outcome, Broken>
+    requires lawful { IsLawfulScript phase.now.means.now.script }
+    requires work { Allows phase.now.means.now.script task.now.work }
+    requires ready { length sights.old ≡ length phase.now.means.now.script.gateways }
+    ensures step { (views : Holdings) → AreSeen views sights.old
+        → TaskStep (setting_in phase.now.means.now)
+        (seat_of phase.now.seats.workers) place task.now views sights.new
+        hand.old.world.journal hand.new.world.journal result }
+    ensures hand { TurnedRun B.told hand.old hand.new (is_full_came result)
+        (is_short_came result) }
+    ensures ready { length sights.new ≡ length sights.old }
 {
-    let count = hand_count(&task.work, progress.gateways.len());
-    let Ok(mut parts) = Vec::with_capacity(alloc, count) else {
-        return (Err(Broken::NoMemory), hand);
+    let count = hand_count(&task.work, sights.len());
+    let Ok(mut parts) = Vec::with_capacity(phase.alloc, count) else {
+        return Err(Broken::NoMemory);
     };
-    let mut hand = hand;
     for number in 0..count {
         let who = hand_at(&task.work, place, number);
-        let (came, next) = do_part(means, task, place, who, seats, progress, hand);
-        hand = next;
-        match came {
+        hand.at_seat(phase.seats.seat_of(who));
+        match do_part(phase.means, task, who, sights, hand) {
             Ok(part) => parts.push_reserved(part),
             Err(broken) => {
                 drop(parts);
-                return (Err(broken), hand);
+                return Err(broken);
             }
         }
     }
-    (gathered_outcome(alloc, parts), hand)
+    gathered_outcome(phase.alloc, parts)
 }
 
 /// How many do a task, where there are so many gateways.
 fn hand_count(work: &Work, gateways: usize) -> usize
     ensures { (place : ℕ) → result ≡ length (hands_of_task gateways place work.now) }
 {
-    match work {
-        Work::Upload(..) => 1,
-        Work::Sync(_) => 1,
-        Work::Compact(_) => 1,
-        Work::Clean(_) => 1,
-        Work::Query { .. } => gateways,
+    match work.asking() {
+        Some(_) => gateways,
+        None => 1,
     }
 }
 
@@ -95,56 +86,50 @@ fn hand_at(work: &Work, place: usize, number: usize) -> Hand
     ensures { (gateways : ℕ) → number < length (hands_of_task gateways place work.now)
         → slice_get (hands_of_task gateways place work.now) number ≡ Some result }
 {
-    match work {
-        Work::Upload(..) => Hand::Alone(place as u64),
-        Work::Sync(gateway) => Hand::Gateway(*gateway),
-        Work::Compact(_) => Hand::Alone(place as u64),
-        Work::Clean(_) => Hand::Alone(place as u64),
-        Work::Query { .. } => Hand::Gateway(number as u32),
+    match work.asking() {
+        Some(_) => Hand::Gateway(number as u32),
+        None => own_hand(work, place),
     }
 }
 
-/// Does one worker's part of a task.
-fn do_part<B: Bucket, R: Drop>(
+/// Who does the task at a place that does not ask all gateways.
+fn own_hand(work: &Work, place: usize) -> Hand
+    ensures { result ≡ own_hand place work.now }
+{
+    match work {
+        Work::Sync(gateway) => Hand::Gateway(*gateway),
+        _ => Hand::Alone(place as u64),
+    }
+}
+
+/// Does one worker's part of a task, from the seat at which the hand is.
+fn do_part<B: Bucket>(
     means: &Means<'_>,
     task: &Task,
-    place: usize,
     who: Hand,
-    seats: &Seats,
-    progress: &mut Progress<R>,
-    hand: LineHand<B>,
-) -> (Result<Part, Broken>, LineHand<B>)
+    sights: &mut [Sight],
+    hand: &mut LineHand<B>,
+) -> Result<Part, Broken>
     requires work { Allows means.now.script task.now.work }
-    requires ready { length progress.old.gateways.items ≡ length means.now.script.gateways }
-    requires unrefused { hand.refused ≡ false }
-    requires unwanted { hand.wanted ≡ false }
-    requires within { IfSome (gateway_of who)
-        (λ gateway. gateway < length progress.old.gateways.items) }
-    ensures full { result.0 ≡ Err Broken.Full → IsFull result.1.world.journal }
-    ensures refused { result.1.refused ≡ is_full_came result.0 }
-    ensures wanted { IsTrue result.1.wanted → result.0 ≡ Err Broken.NoMemory }
-    ensures keeps { KeepsRun B.told hand.opened.value hand.wanted hand.world
-        result.1.opened.value result.1.wanted result.1.world }
-    ensures step { (views : Holdings) → AreSeen views progress.old.gateways.items
-        → PartStep (setting_in means.now)
-        (seat_of seats.now.workers) place task.now who views progress.new.gateways.items
-        hand.world.journal result.1.world.journal result.0 }
-    ensures report { progress.new.report ≡ progress.old.report }
-    ensures workers { progress.new.workers ≡ progress.old.workers }
-    ensures ready { length progress.new.gateways.items ≡ length means.now.script.gateways }
+    requires within { IfSome (gateway_of who) (λ gateway. gateway < length sights.old) }
+    ensures step { (seat : Hand → ℕ) (place : ℕ) (views : Holdings) → hand.old.seat ≡ seat who
+        → AreSeen views sights.old
+        → PartStep (setting_in means.now) seat place task.now who views sights.new
+        hand.old.world.journal hand.new.world.journal result }
+    ensures hand { TurnedRun B.told hand.old hand.new (is_full_came result)
+        (is_short_came result) }
+    ensures ready { length sights.new ≡ length sights.old }
 {
-    let seat = seats.seat_of(who);
     match who {
         Hand::Alone(_) => {
             let mut unseen = Sight::new();
-            let done = do_over(means, None, &task.work, &mut unseen, hand, seat);
+            let came = run_task(means, None, &task.work, &mut unseen, hand);
             drop(unseen);
-            done
+            came
         }
         Hand::Gateway(number) => {
-            let gateway = &mut progress.gateways[number as usize];
-            let own = Some(number);
-            do_over(means, own, &task.work, gateway, hand, seat)
+            let sight = &mut sights[number as usize];
+            run_task(means, Some(number), &task.work, sight, hand)
         }
     }
 }
@@ -160,31 +145,4 @@ fn gathered_outcome(alloc: Global, parts: Vec<Part>) -> Result<Outcome, Broken>
         Ok(outcome) => Ok(outcome),
         Err(NoMemory) => Err(Broken::NoMemory),
     }
-}
-
-/// Does a task from a worker's seat.
-fn do_over<B: Bucket>(
-    means: &Means<'_>,
-    gateway: Option<u32>,
-    work: &Work,
-    sight: &mut Sight,
-    hand: LineHand<B>,
-    seat: u32,
-) -> (Result<Part, Broken>, LineHand<B>)
-    requires work { Allows means.now.script work.now }
-    requires unrefused { hand.refused ≡ false }
-    requires unwanted { hand.wanted ≡ false }
-    ensures full { result.0 ≡ Err Broken.Full → IsFull result.1.world.journal }
-    ensures refused { result.1.refused ≡ is_full_came result.0 }
-    ensures wanted { IsTrue result.1.wanted → result.0 ≡ Err Broken.NoMemory }
-    ensures keeps { KeepsRun B.told hand.opened.value hand.wanted hand.world
-        result.1.opened.value result.1.wanted result.1.world }
-    ensures done { (who : Who) (place : ℕ) (held : Holding) → who.gateway ≡ gateway
-        → Sees held sight.old
-        → HasDone (TaskRun (setting_in means.now) who place work.now held) (IsPart work.now) seat
-        hand.world.journal result.1.world.journal sight.new result.0 }
-{
-    let mut hand = hand.at_seat(seat);
-    let came = run_task(means, gateway, work, sight, &mut hand);
-    (came, hand)
 }

@@ -2,6 +2,7 @@
 //! run does not show. They bring the laws of `lifecycle_core` to what a user reads.
 
 ghost use Rattle.std.specs.Prelude.{◌≡◌, ◌++◌, ℕ, Bool, true, List, Contains};
+ghost use Rattle.bucket_core.specs.Contents.{Contents};
 ghost use Rattle.world_core.specs.Standing.{IsHonest};
 ghost use Rattle.world_core.specs.Worlds.{failed_count};
 ghost use Rattle.world_core.specs.declared.entry.Entry.{Entry};
@@ -12,6 +13,7 @@ ghost use Rattle.call_verdicts.specs.lifecycle_core.specs.Setting.{Setting};
 ghost use Rattle.script_core.specs.declared.script.Script.{Script};
 ghost use Rattle.replay_cli.specs.Days.{IsWholeDay};
 ghost use Rattle.replay_cli.specs.ToldAnswers.{IsTold, IsWorth, ToldAnswer};
+ghost use Rattle.call_verdicts.specs.ShelfReads.{HoldsBytes, IsOfShelf};
 ghost use Rattle.call_verdicts.specs.Shippable.{RefusesNone, StaysWithin};
 ghost use Rattle.call_verdicts.specs.Verdicts.{IsFullRun, IsTrusted, IsWholeRun};
 ghost use Rattle.call_verdicts.specs.script_running.specs.declared.came.Came.TheVariants as outcome;
@@ -50,6 +52,13 @@ pub fn journals_tell_the_report()
     ensures apart { (setting : Setting) (journal : List Entry) (as_asked : Bool)
         (text other : List ℕ)
         → IsWholeRun setting as_asked text journal → ¬ IsFullRun setting other journal }
+{}
+
+/// A law: a shelf's files fix what is read of them. Two settings of one script that are of one shelf are one. So the report is told by
+/// the script, the files of the shelf and the journal.
+pub fn shelves_tell_settings()
+    ensures { (told : Contents) (one other : Setting) → HoldsBytes told
+        → one.script ≡ other.script → IsOfShelf one told → IsOfShelf other told → one ≡ other }
 {}
 
 /// A law: a journal tells the summary of a generated day. Two whole days of one lawful script that leave one journal print the same,

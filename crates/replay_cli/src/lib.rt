@@ -19,7 +19,7 @@ pub use call_verdicts::script_running::{
 pub use call_verdicts::{InputRefusal, Run, SinkFault, Status, Verdict, read_all, write_all};
 pub use laws::{
     calm_runs_end_as_asked, journals_tell_the_report, journals_tell_the_summary,
-    told_answers_are_sound, told_misses_are_explained,
+    shelves_tell_settings, told_answers_are_sound, told_misses_are_explained,
 };
 pub use replay::run_replay;
 pub use run_notes::RunNote;

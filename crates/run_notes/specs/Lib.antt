@@ -1,2 +1,4 @@
 pub mod LineHands
+pub mod LineTold
 pub mod Notes
+pub mod RunHands

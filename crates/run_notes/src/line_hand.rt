@@ -41,28 +41,11 @@ impl<B: Bucket> LineHand<B> {
         }
     }
 
-    /// The hand at another seat.
-    pub fn at_seat(self, seat: u32) -> Self
-        ensures world { result.world ≡ self.world }
-        ensures seat { result.seat ≡ seat }
-        ensures opened { result.opened ≡ self.opened }
-        ensures refused { result.refused ≡ self.refused }
-        ensures wanted { result.wanted ≡ self.wanted }
+    /// Goes to another seat.
+    pub fn at_seat(&mut self, seat: u32)
+        ensures { self.new ≡ record self.old { seat = seat } }
     {
-        let LineHand {
-            world,
-            seat: _,
-            refused,
-            wanted,
-            opened,
-        } = self;
-        LineHand {
-            world,
-            seat,
-            refused,
-            wanted,
-            opened,
-        }
+        self.seat = seat;
     }
 
     /// The world, as it is now.

@@ -1,8 +1,9 @@
-use Rattle.std.proofs.Common.{[], ap, ◌∙◌, subst}
+use Rattle.std.proofs.Common.{[], ◌||◌, ap, ◌∙◌, subst}
+use Rattle.report_lines.specs.script_running.specs.Tasks.{is_full_came}
 use Rattle.report_lines.specs.script_running.specs.Shelves.{setting_by}
 use Rattle.report_lines.specs.script_running.specs.declared.shelf.ShelfBlock.{ShelfBlock}
 use Rattle.line_running.specs.Progress.{RunCame}
-use Rattle.line_running.proofs.Keeping.{kept_since, kept_still}
+use Rattle.line_running.proofs.Turns.{kept_since, kept_still, wanted_by}
 use Rattle.line_running.proofs.PhaseLists.{no_run, no_seats, reached_none}
 use Rattle.line_running.proofs.in_line.do_in_line.Goals as goal
 use Rattle.std.specs.Prelude.{List}
@@ -29,10 +30,19 @@ run_phases-came-requires-clause-reached g c =
 pub returns-clause-came : goal.returns-clause-came
 returns-clause-came g c = (
   c.run_phases-came.new.progress.gateways.items,
-  rw c.into_report.ensures (subst (λ (s : List ShelfBlock). RunCame g.R.Report.tells (setting_by c.args.script.now s) c.run_phases-came.new.progress.gateways.items c.run_phases-came.result.1.world.journal c.run_phases-came.new.progress.report c.run_phases-came.result.0) c.lend-means.ensures.shelf c.run_phases-came.ensures.came),
+  rw c.into_report.ensures (subst (λ (s : List ShelfBlock). RunCame g.R.Report.tells (setting_by c.args.script.now s) c.run_phases-came.new.progress.gateways.items c.run_phases-came.new.hand.world.journal c.run_phases-came.new.progress.report c.run_phases-came.result) c.lend-means.ensures.shelf c.run_phases-came.ensures.came),
 )
 
 pub returns-clause-keeps : goal.returns-clause-keeps
 returns-clause-keeps g c =
-    kept_since g.B.Bucket.told c.args.world c.new-hand.result.world c.new-hand.result.opened.value c.run_phases-came.result.1.opened.value c.new-hand.result.wanted c.run_phases-came.result.1.wanted c.run_phases-came.result.1.world
-    c.new-hand.ensures.world c.new-hand.ensures.opened c.new-hand.ensures.wanted c.run_phases-came.ensures.keeps
+    kept_since g.B.Bucket.told c.args.world c.new-hand.result.world c.new-hand.result.opened.value c.run_phases-came.new.hand.opened.value c.new-hand.result.wanted c.run_phases-came.new.hand.wanted c.run_phases-came.new.hand.world
+    c.new-hand.ensures.world c.new-hand.ensures.opened c.new-hand.ensures.wanted c.run_phases-came.ensures.hand.kept
+
+pub returns-clause-full : goal.returns-clause-full
+returns-clause-full g c = λ is. c.run_phases-came.ensures.hand.is_full (ap is_full_came is)
+
+pub returns-clause-refused : goal.returns-clause-refused
+returns-clause-refused g c = c.run_phases-came.ensures.hand.was_refused ∙ ap (λ b. b || is_full_came c.run_phases-came.result) c.new-hand.ensures.refused
+
+pub returns-clause-wanted : goal.returns-clause-wanted
+returns-clause-wanted g c = wanted_by c.new-hand.result.wanted c.run_phases-came.new.hand.wanted c.run_phases-came.result c.new-hand.ensures.wanted c.run_phases-came.ensures.hand.was_wanted

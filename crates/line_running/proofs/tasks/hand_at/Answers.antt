@@ -1,17 +1,10 @@
-use Rattle.line_running.proofs.Steps.{hand_of_cleaning, hand_of_compaction, hand_of_query, hand_of_sync, hand_of_upload}
+use Rattle.std.proofs.Common.{sym, ap, ◌∙◌}
+use Rattle.std.specs.Prelude.{Some, is_some}
+use Rattle.line_running.proofs.Steps.{hand_all, hand_one}
 use Rattle.line_running.proofs.tasks.hand_at.Goals as goal
 
-pub returns-in-Upload : goal.returns-in-Upload
-returns-in-Upload c = λ gateways. hand_of_upload gateways c.args.place c.args.number c.in-Upload.field-0 c.in-Upload.field-1 c.args.work.now c.in-Upload.is
+pub returns-in-Some : goal.returns-in-Some
+returns-in-Some c = λ gateways. hand_all gateways c.args.place c.args.number c.args.work.now (sym (ap is_some c.in-Some.ensures))
 
-pub returns-in-Sync : goal.returns-in-Sync
-returns-in-Sync c = λ gateways. hand_of_sync gateways c.args.place c.args.number c.in-Sync.gateway c.args.work.now c.in-Sync.is
-
-pub returns-in-Compact : goal.returns-in-Compact
-returns-in-Compact c = λ gateways. hand_of_compaction gateways c.args.place c.args.number c.in-Compact.field-0 c.args.work.now c.in-Compact.is
-
-pub returns-in-Clean : goal.returns-in-Clean
-returns-in-Clean c = λ gateways. hand_of_cleaning gateways c.args.place c.args.number c.in-Clean.field-0 c.args.work.now c.in-Clean.is
-
-pub returns-in-Query : goal.returns-in-Query
-returns-in-Query c = λ gateways. hand_of_query gateways c.args.place c.args.number c.in-Query.low c.in-Query.high c.in-Query.selector c.args.work.now c.in-Query.is
+pub returns-in-None : goal.returns-in-None
+returns-in-None c = λ gateways less. hand_one gateways c.args.place c.args.number c.args.work.now (sym (ap is_some c.in-None.ensures)) less ∙ ap (λ h. Some h) (sym c.own_hand.ensures)
