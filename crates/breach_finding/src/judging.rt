@@ -10,7 +10,6 @@ ghost use Rattle.world_core.specs.Operations.{IsLawful, IsReplyTo};
 ghost use Rattle.world_core.specs.Standing.{left_by, stands};
 ghost use Rattle.world_core.specs.declared.entry.Entry.{Entry};
 ghost use Rattle.breach_finding.specs.Standings.{IsStanding};
-ghost use Rattle.script_core.specs.Lawful.{AreLawfulRules};
 ghost use Rattle.lifecycle_core.specs.Breaches.{ReadsSamples, Refuses};
 ghost use Rattle.lifecycle_core.specs.Setting.{Setting, setting_of};
 ghost use Rattle.lifecycle_core.specs.Tasks.{partition_of, sync_rules};
@@ -104,7 +103,7 @@ fn watch(
     unders: &mut BTreeMap<u32, UnderWay>,
     entry: &Entry,
 ) -> Result<Option<Told>, NoMemory>
-    requires limit { 1 ≤ rules.page_limit }
+    requires lawful { IsLawful entry.now.op }
     requires kind { IsReplyTo entry.now.op entry.now.reply }
     requires small { entry.now.moment.ms < ulid_time_limit }
     requires waits { (seat : ℕ) → IsWaiting (get nat_cmp unders.old seat) }
@@ -213,7 +212,8 @@ pub(crate) fn late_refusal(
     gateway: u32,
     entry: &Entry,
 ) -> Result<Option<Refusal>, NoMemory>
-    requires lawful { AreLawfulRules script.now.rules }
+    requires span { script.now.rules.ignore.ms ≤ longest_span }
+    requires lawful { IsLawful entry.now.op }
     requires kind { IsReplyTo entry.now.op entry.now.reply }
     requires small { entry.now.moment.ms < ulid_time_limit }
     requires waits { (seat : ℕ) → IsWaiting (get nat_cmp unders.old seat) }

@@ -18,4 +18,4 @@ mod watching;
 pub use found::{Breach, BreachRule};
 pub use laws::answers_are_one;
 pub use standing::Standing;
-pub use walking::find_breach;
+pub use walking::breach;
