@@ -28,6 +28,7 @@ use Rattle.report_lines.specs.Telling.{tasks_of}
 use Rattle.report_lines.specs.script_running.specs.declared.came.Broken.{Broken}
 use Rattle.report_lines.specs.script_running.specs.declared.came.Broken.TheVariants as broken
 use Rattle.report_lines.proofs.ReportLists.{tasks_append}
+use Rattle.line_running.proofs.Steps.{line}
 use Rattle.line_running.proofs.Told.{tasks_came, told_length, told_outcomes}
 use Rattle.report_lines.specs.lifecycle_core.specs.Guarantees.{IsGuaranteedJournal}
 use Rattle.report_lines.specs.lifecycle_core.specs.Holdings.{Holdings, none_held, nothing_held}
@@ -158,7 +159,7 @@ module _ {R : Type 0} (tells : R → Script → List Task → List Outcome → T
   )
 
   pub broken_off : (clock : Entry) (new : List Entry) → BeginsPhase phase clock → (r : Reached tells setting place shown journal report)
-      → ((v : Holdings) → AreSeen v shown → TasksBroken setting (seat_of (workers_of setting.script place)) phase.tasks v (journal ++ clock ∷ []) new broken.Full) → IsBrokenAt tells setting place new report
+      → ((v : Holdings) → AreSeen v shown → TasksBroken (line setting (seat_of (workers_of setting.script place))) phase.tasks v (journal ++ clock ∷ []) new broken.Full) → IsBrokenAt tells setting place new report
   broken_off clock new begins r tasks =
       let t = tasks r.views r.shows in
       record {
@@ -192,12 +193,12 @@ module _ {R : Type 0} (tells : R → Script → List Task → List Outcome → T
       }
 
   pub broken_short : (clock : Entry) (new : List Entry) → BeginsPhase phase clock → (r : Reached tells setting place shown journal report)
-      → ((v : Holdings) → AreSeen v shown → TasksBroken setting (seat_of (workers_of setting.script place)) phase.tasks v (journal ++ clock ∷ []) new broken.NoMemory) → IsShortAt tells setting place new report
+      → ((v : Holdings) → AreSeen v shown → TasksBroken (line setting (seat_of (workers_of setting.script place))) phase.tasks v (journal ++ clock ∷ []) new broken.NoMemory) → IsShortAt tells setting place new report
   broken_short clock new begins r tasks = let t = tasks r.views r.shows in short_at clock new t.made t.ends t.after report begins r t.run t.entries r.report_is
 
   -- the phase was done to its end
   pub reached_more : (clock : Entry) (new : List Entry) (gateways : List Sight) (own more : R) → BeginsPhase phase clock → (r : Reached tells setting place shown journal report)
-      → ((v : Holdings) → AreSeen v shown → TasksDone tells setting (seat_of (workers_of setting.script place)) phase.tasks v gateways (journal ++ clock ∷ []) new own)
+      → ((v : Holdings) → AreSeen v shown → TasksDone (tells own) (line setting (seat_of (workers_of setting.script place))) phase.tasks v gateways (journal ++ clock ∷ []) new)
       → ((done tasks : List Task) (first later : List Outcome) → tells report setting.script done first → tells own setting.script tasks later → tells more setting.script (done ++ tasks) (first ++ later))
       → Reached tells setting (place + 1) gateways new more
   reached_more clock new gateways own more begins r tasks joins =
@@ -306,7 +307,7 @@ unbegun_step tells setting place phase shown gateways journal new report broken.
 
 pub broken_step : {R : Type 0} (tells : R → Script → List Task → List Outcome → Type 0) (setting : Setting) (place : ℕ) (phase : Phase) (shown gateways : List Sight) (journal new : List Entry) (report same : R) (b : Broken) (clock : Entry) → slice_get setting.script.phases place ≡ Some phase
     → same ≡ report → BeginsPhase phase clock → (r : Reached tells setting place shown journal report)
-    → ((v : Holdings) → AreSeen v shown → TasksBroken setting (seat_of (workers_of setting.script place)) phase.tasks v (journal ++ clock ∷ []) new b) → PhaseStep tells setting place gateways new same (Err b)
+    → ((v : Holdings) → AreSeen v shown → TasksBroken (line setting (seat_of (workers_of setting.script place))) phase.tasks v (journal ++ clock ∷ []) new b) → PhaseStep tells setting place gateways new same (Err b)
 broken_step {R} tells setting place phase shown gateways journal new report same broken.Full clock at is begins r tasks =
     subst (λ (x : R). IsBrokenAt tells setting place new x) (sym is) (broken_off tells setting place phase shown journal report at clock new begins r tasks)
 broken_step {R} tells setting place phase shown gateways journal new report same broken.NoMemory clock at is begins r tasks =
@@ -314,7 +315,7 @@ broken_step {R} tells setting place phase shown gateways journal new report same
 
 pub taken_step : {R : Type 0} (tells : R → Script → List Task → List Outcome → Type 0) (setting : Setting) (place : ℕ) (phase : Phase) (shown gateways : List Sight) (journal new : List Entry) (report mid own more : R) (r : Result (Unit {0}) Broken) (clock : Entry) → r ≢ Err broken.Full
     → slice_get setting.script.phases place ≡ Some phase → BeginsPhase phase clock → Reached tells setting place shown journal report
-    → ((v : Holdings) → AreSeen v shown → TasksDone tells setting (seat_of (workers_of setting.script place)) phase.tasks v gateways (journal ++ clock ∷ []) new own)
+    → ((v : Holdings) → AreSeen v shown → TasksDone (tells own) (line setting (seat_of (workers_of setting.script place))) phase.tasks v gateways (journal ++ clock ∷ []) new)
     → mid ≡ report → ((done tasks : List Task) (first later : List Outcome) → tells mid setting.script done first → tells own setting.script tasks later → OnOk r (tells more setting.script (done ++ tasks) (first ++ later)))
     → ((done : List Task) (first : List Outcome) → tells mid setting.script done first → OnErr r (tells more setting.script done first))
     → PhaseStep tells setting place gateways new more r
@@ -337,18 +338,18 @@ seats_next setting place phase workers before count after at are is counted next
 
 pub done_from : {R : Type 0} (tells : R → Script → List Task → List Outcome → Type 0) (setting : Setting) (place : ℕ) (phase : Phase) (shown gateways : List Sight) (journal mid new : List Entry) (own : R) (workers : List Worker) (tasks : List Task) (clock : Entry)
     → workers ≡ workers_of setting.script place → tasks ≡ phase.tasks → mid ≡ journal ++ clock ∷ []
-    → ((v : Holdings) → AreSeen v shown → TasksDone tells setting (seat_of workers) tasks v gateways mid new own)
-    → (v : Holdings) → AreSeen v shown → TasksDone tells setting (seat_of (workers_of setting.script place)) phase.tasks v gateways (journal ++ clock ∷ []) new own
+    → ((v : Holdings) → AreSeen v shown → TasksDone (tells own) (line setting (seat_of workers)) tasks v gateways mid new)
+    → (v : Holdings) → AreSeen v shown → TasksDone (tells own) (line setting (seat_of (workers_of setting.script place))) phase.tasks v gateways (journal ++ clock ∷ []) new
 done_from tells setting place phase shown gateways journal mid new own workers tasks clock w t m done = λ v shows.
-    subst (λ (ws : List Worker). TasksDone tells setting (seat_of ws) phase.tasks v gateways (journal ++ clock ∷ []) new own) w
-    (subst (λ (ts : List Task). TasksDone tells setting (seat_of workers) ts v gateways (journal ++ clock ∷ []) new own) t
-    (subst (λ (es : List Entry). TasksDone tells setting (seat_of workers) tasks v gateways es new own) m (done v shows)))
+    subst (λ (ws : List Worker). TasksDone (tells own) (line setting (seat_of ws)) phase.tasks v gateways (journal ++ clock ∷ []) new) w
+    (subst (λ (ts : List Task). TasksDone (tells own) (line setting (seat_of workers)) ts v gateways (journal ++ clock ∷ []) new) t
+    (subst (λ (es : List Entry). TasksDone (tells own) (line setting (seat_of workers)) tasks v gateways es new) m (done v shows)))
 
 pub broken_from : (setting : Setting) (place : ℕ) (phase : Phase) (shown : List Sight) (journal mid new : List Entry) (why : Broken) (workers : List Worker) (tasks : List Task) (clock : Entry)
     → workers ≡ workers_of setting.script place → tasks ≡ phase.tasks → mid ≡ journal ++ clock ∷ []
-    → ((v : Holdings) → AreSeen v shown → TasksBroken setting (seat_of workers) tasks v mid new why)
-    → (v : Holdings) → AreSeen v shown → TasksBroken setting (seat_of (workers_of setting.script place)) phase.tasks v (journal ++ clock ∷ []) new why
+    → ((v : Holdings) → AreSeen v shown → TasksBroken (line setting (seat_of workers)) tasks v mid new why)
+    → (v : Holdings) → AreSeen v shown → TasksBroken (line setting (seat_of (workers_of setting.script place))) phase.tasks v (journal ++ clock ∷ []) new why
 broken_from setting place phase shown journal mid new why workers tasks clock w t m done = λ v shows.
-    subst (λ (ws : List Worker). TasksBroken setting (seat_of ws) phase.tasks v (journal ++ clock ∷ []) new why) w
-    (subst (λ (ts : List Task). TasksBroken setting (seat_of workers) ts v (journal ++ clock ∷ []) new why) t
-    (subst (λ (es : List Entry). TasksBroken setting (seat_of workers) tasks v es new why) m (done v shows)))
+    subst (λ (ws : List Worker). TasksBroken (line setting (seat_of ws)) phase.tasks v (journal ++ clock ∷ []) new why) w
+    (subst (λ (ts : List Task). TasksBroken (line setting (seat_of workers)) ts v (journal ++ clock ∷ []) new why) t
+    (subst (λ (es : List Entry). TasksBroken (line setting (seat_of workers)) tasks v es new why) m (done v shows)))

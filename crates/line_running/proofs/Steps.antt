@@ -21,6 +21,7 @@ use Rattle.script_workers.specs.declared.hand.Hand.TheVariants as hands
 use Rattle.script_workers.specs.declared.task.Task.{Task}
 use Rattle.script_workers.specs.declared.work.Work.{Work}
 use Rattle.script_workers.specs.declared.work.Work.TheVariants as works
+use Rattle.report_lines.specs.lifecycle_core.specs.Conducts.{Assigned}
 use Rattle.report_lines.specs.lifecycle_core.specs.Holdings.{Holding, Holdings, holding_of, nothing_held, with_holding}
 use Rattle.report_lines.specs.lifecycle_core.specs.InLine.{Duty, InLine, duties_from, who_does}
 use Rattle.report_lines.specs.lifecycle_core.specs.Setting.{Setting}
@@ -35,8 +36,20 @@ use Rattle.report_lines.specs.script_running.specs.declared.came.Broken.{Broken}
 use Rattle.report_lines.specs.script_running.specs.declared.came.Broken.TheVariants as broken
 use Rattle.report_lines.specs.script_running.specs.declared.sight.Sight.{Sight}
 use Rattle.report_lines.specs.script_running.proofs.TaskSteps.{when_done}
-use Rattle.line_running.specs.Progress.{IsDueInLine, IsWhole, PartStep, TaskStep, duties_at}
+use Rattle.line_running.specs.Progress.{IsDueInLine, IsWhole, Line, PartStep, TaskStep, duties_at}
 use Rattle.report_lines.specs.script_running.specs.Beside.{AreSeen}
+
+-- in line by this setting, from these seats
+abbrev pub line : Setting → (Hand → ℕ) → Line
+line setting seat = record { setting = setting; seat = seat }
+
+-- the task at a place
+abbrev pub one_of : ℕ → Task → Assigned
+one_of place task = record { place = place; task = task }
+
+-- what a hand of a task has to do
+abbrev pub duty_of : ℕ → Task → Hand → Duty
+duty_of place task hand = record { place = place; hand = hand; task = task }
 
 -- ---- one part
 
@@ -46,7 +59,7 @@ done_by (Err why) P Q f holds = tt
 
 -- a worker's part that it did from its seat
 pub part_step : (setting : Setting) (seat : Hand → ℕ) (own : ℕ) (place : ℕ) (task : Task) (hand : Hand) (views : Holdings) (gateways : List Sight) (old new : List Entry) (sight : Sight) (came : Result Part Broken) → own ≡ seat hand
-    → (d : HasDone (TaskRun setting (who_does seat hand) place task.work (holding_of views (gateway_of hand))) (IsPart task.work) own old new sight came) → WhenDone came (AreSeen (with_holding views (gateway_of hand) d.after) gateways) → PartStep setting seat place task hand views gateways old new came
+    → (d : HasDone (TaskRun setting (who_does seat hand) place task.work (holding_of views (gateway_of hand))) (IsPart task.work) own old new sight came) → WhenDone came (AreSeen (with_holding views (gateway_of hand) d.after) gateways) → PartStep (line setting seat) (duty_of place task hand) views gateways old new came
 part_step setting seat own place task hand views gateways old new sight came same d shows = record {
   made = d.made;
   entries = d.entries;
@@ -60,9 +73,9 @@ part_step setting seat own place task hand views gateways old new sight came sam
 }
 
 pub alone_step : (setting : Setting) (seat : Hand → ℕ) (own : ℕ) (place number : ℕ) (task : Task) (hand : Hand) (views : Holdings) (gateways : List Sight) (old new : List Entry) (sight : Sight) (came : Result Part Broken) → hand ≡ hands.Alone number → own ≡ seat hand
-    → HasDone (TaskRun setting (who_does seat (hands.Alone number)) place task.work nothing_held) (IsPart task.work) own old new sight came → AreSeen views gateways → PartStep setting seat place task hand views gateways old new came
+    → HasDone (TaskRun setting (who_does seat (hands.Alone number)) place task.work nothing_held) (IsPart task.work) own old new sight came → AreSeen views gateways → PartStep (line setting seat) (duty_of place task hand) views gateways old new came
 alone_step setting seat own place number task hand views gateways old new sight came is same d shows =
-    subst (λ (h : Hand). PartStep setting seat place task h views gateways old new came) (sym is)
+    subst (λ (h : Hand). PartStep (line setting seat) (duty_of place task h) views gateways old new came) (sym is)
     (part_step setting seat own place task (hands.Alone number) views gateways old new sight came (same ∙ ap seat is) d (when_done came (AreSeen views gateways) shows))
 
 -- ---- a gateway's task
@@ -89,10 +102,10 @@ set_shows views number held gateways gateway shows is = λ place x at. shows_at 
 pub gateway_step : (setting : Setting) (seat : Hand → ℕ) (own : ℕ) (place : ℕ) (task : Task) (hand : Hand) (views : Holdings) (gateways : List Sight) (old new : List Entry) (came : Result Part Broken) (number : ℕ) (before gateway : Sight) → hand ≡ hands.Gateway number
     → own ≡ seat hand → slice_get gateways number ≡ Some before
     → ((held : Holding) → Sees held before → HasDone (TaskRun setting (who_does seat (hands.Gateway number)) place task.work held) (IsPart task.work) own old new gateway came)
-    → AreSeen views gateways → PartStep setting seat place task hand views (set gateways number gateway) old new came
+    → AreSeen views gateways → PartStep (line setting seat) (duty_of place task hand) views (set gateways number gateway) old new came
 gateway_step setting seat own place task hand views gateways old new came number before gateway is same at done shows =
     let d = done (views number) (shows number before at) in
-    subst (λ (h : Hand). PartStep setting seat place task h views (set gateways number gateway) old new came) (sym is)
+    subst (λ (h : Hand). PartStep (line setting seat) (duty_of place task h) views (set gateways number gateway) old new came) (sym is)
     (part_step setting seat own place task (hands.Gateway number) views (set gateways number gateway) old new gateway came (same ∙ ap seat is) d
     (done_by came (Sees d.after gateway) (AreSeen (with_holding views (Some number) d.after) (set gateways number gateway)) (set_shows views number d.after gateways gateway shows) d.sees))
 
@@ -175,10 +188,6 @@ pub gathered_is : (w : Work) (parts : List Part) (o : Result Outcome Broken) →
 gathered_is w parts (Ok own) holds outcome is = let same : own ≡ outcome = cc (is) in subst (IsOutcomeOf w parts) same holds
 gathered_is w parts (Err why) holds outcome is = absurd (cc (is))
 
--- what a hand of a task has to do
-abbrev duty_of : ℕ → Task → Hand → Duty
-duty_of place task hand = record { place = place; hand = hand; task = task }
-
 -- its duty is that of the number
 pub duty_at : (setting : Setting) (place number : ℕ) (task : Task) (hand : Hand) → slice_get (hands_of_task (gateway_count setting.script.gateways) place task.work) number ≡ Some hand
     → slice_get (duties_at setting place (task ∷ [])) number ≡ Some (record { place = place; hand = hand; task = task })
@@ -247,7 +256,7 @@ module _ (setting : Setting) (seat : Hand → ℕ) (place : ℕ) (task : Task) (
     next : drop number duties ≡ own_duty hand ∷ drop (number + 1) duties
     next = drop_place duties number (own_duty hand) at
 
-    one_more : (one : Part) (p : PartStep setting seat place task hand f.after gateways mid new (Ok one)) (end : Option End) → p.end ≡ end → CameBy task.work end (Ok one) → Front (number + 1) gateways old new (parts ++ one ∷ [])
+    one_more : (one : Part) (p : PartStep (line setting seat) (duty_of place task hand) f.after gateways mid new (Ok one)) (end : Option End) → p.end ≡ end → CameBy task.work end (Ok one) → Front (number + 1) gateways old new (parts ++ one ∷ [])
     one_more one p None is by = absurd by
     one_more one p (Some end) is by = record {
       made = f.made ++ p.made;
@@ -265,9 +274,9 @@ module _ (setting : Setting) (seat : Hand → ℕ) (place : ℕ) (task : Task) (
       all = AllZip-push (IsPart task.work) f.ends parts end one f.all by;
     }
 
-    pub part_more : (came : Result Part Broken) (one : Part) (made : List Part) → came ≡ Ok one → made ≡ parts ++ one ∷ [] → PartStep setting seat place task hand f.after gateways mid new came → Front (number + 1) gateways old new made
+    pub part_more : (came : Result Part Broken) (one : Part) (made : List Part) → came ≡ Ok one → made ≡ parts ++ one ∷ [] → PartStep (line setting seat) (duty_of place task hand) f.after gateways mid new came → Front (number + 1) gateways old new made
     part_more came one made ok is p =
-        let q = subst (λ (c : Result Part Broken). PartStep setting seat place task hand f.after gateways mid new c) ok p in
+        let q = subst (λ (c : Result Part Broken). PartStep (line setting seat) (duty_of place task hand) f.after gateways mid new c) ok p in
         subst (λ (l : List Part). Front (number + 1) gateways old new l) (sym is) (one_more one q q.end refl q.by)
 
     -- what an operation of the part leads to
@@ -291,9 +300,9 @@ module _ (setting : Setting) (seat : Hand → ℕ) (place : ℕ) (task : Task) (
     none_by (Some end) broken.Full by = absurd by
     none_by (Some end) broken.NoMemory by = absurd by
 
-    pub part_broken : (begin : MayAllBegin setting duties) (came : Result Part Broken) (why : Broken) → came ≡ Err why → PartStep setting seat place task hand f.after gateways mid new came → TaskStep setting seat place task views gateways old new (Err why)
+    pub part_broken : (begin : MayAllBegin setting duties) (came : Result Part Broken) (why : Broken) → came ≡ Err why → PartStep (line setting seat) (duty_of place task hand) f.after gateways mid new came → TaskStep (line setting seat) (one_of place task) views gateways old new (Err why)
     part_broken begin came why is p =
-        let q = subst (λ (c : Result Part Broken). PartStep setting seat place task hand f.after gateways mid new c) is p in
+        let q = subst (λ (c : Result Part Broken). PartStep (line setting seat) (duty_of place task hand) f.after gateways mid new c) is p in
         let last = with_holding f.after (gateway_of hand) q.after in
         let within : number < length duties = slice_get_within duties number (own_duty hand) at in
         record {
@@ -311,7 +320,7 @@ module _ (setting : Setting) (seat : Hand → ℕ) (place : ℕ) (task : Task) (
         cut broken.Full less = less
         cut broken.NoMemory less = tt
 
-        broke : (why : Broken) (q : PartStep setting seat place task hand f.after gateways mid new (Err why)) → WhenFull {X = Outcome} (Err why) (IsDueInLine setting seat views duties (f.made ++ q.made))
+        broke : (why : Broken) (q : PartStep (line setting seat) (duty_of place task hand) f.after gateways mid new (Err why)) → WhenFull {X = Outcome} (Err why) (IsDueInLine setting seat views duties (f.made ++ q.made))
         broke broken.NoMemory q = tt
         broke broken.Full q = (
           seat hand,
@@ -328,7 +337,7 @@ module _ (setting : Setting) (seat : Hand → ℕ) (place : ℕ) (task : Task) (
 
   -- all parts were done, and what they came to was gathered, or memory was wanting for that
   pub all_done : (number : ℕ) (gateways : List Sight) (old new : List Entry) (parts : List Part) (o : Result Outcome Broken) → Front number gateways old new parts → number ≡ length duties → o ≢ Err broken.Full
-      → ((outcome : Outcome) → o ≡ Ok outcome → IsOutcomeOf task.work parts outcome) → TaskStep setting seat place task views gateways old new o
+      → ((outcome : Outcome) → o ≡ Ok outcome → IsOutcomeOf task.work parts outcome) → TaskStep (line setting seat) (one_of place task) views gateways old new o
   all_done number gateways old new parts o f all why is = record {
     made = f.made;
     entries = f.entries;
@@ -352,7 +361,7 @@ module _ (setting : Setting) (seat : Hand → ℕ) (place : ℕ) (task : Task) (
       none_due (Err broken.NoMemory) why = tt
 
   -- memory was wanting before the first part
-  pub none_begun : (gateways : List Sight) (journal : List Entry) → MayAllBegin setting duties → TaskStep setting seat place task views gateways journal journal (Err broken.NoMemory)
+  pub none_begun : (gateways : List Sight) (journal : List Entry) → MayAllBegin setting duties → TaskStep (line setting seat) (one_of place task) views gateways journal journal (Err broken.NoMemory)
   none_begun gateways journal begin = record {
     made = [];
     entries = sym (append-nil journal);

@@ -26,7 +26,7 @@ use Rattle.report_lines.specs.script_running.specs.Outcomes.{IsOutcome, Outcome,
 use Rattle.report_lines.specs.script_running.specs.declared.sight.Sight.{Sight}
 use Rattle.line_running.specs.Progress.{IsDueInLine, TaskStep, TasksBroken, TasksDone, TasksTold, duties_at}
 use Rattle.report_lines.specs.script_running.specs.Beside.{AreSeen}
-use Rattle.line_running.proofs.Steps.{duties_long}
+use Rattle.line_running.proofs.Steps.{duties_long, line, one_of}
 use Rattle.report_lines.specs.script_running.specs.declared.came.Broken.{Broken}
 use Rattle.report_lines.specs.script_running.specs.declared.came.Broken.TheVariants as broken
 
@@ -87,8 +87,8 @@ told_length setting place (task ∷ tasks) ends outcomes told =
 
 -- a step by what is lent of the script
 pub lent_step : (one other : Script) (shelf : List ShelfBlock) (seat : Hand → ℕ) (place : ℕ) (task : Task) (views : Holdings) (gateways : List Sight) (old new : List Entry) (came : Result Outcome Broken) → one ≡ other
-    → TaskStep (setting_by one shelf) seat place task views gateways old new came → TaskStep (setting_by other shelf) seat place task views gateways old new came
-lent_step one other shelf seat place task views gateways old new came same step = subst (λ (s : Script). TaskStep (setting_by s shelf) seat place task views gateways old new came) same step
+    → TaskStep (line (setting_by one shelf) seat) (one_of place task) views gateways old new came → TaskStep (line (setting_by other shelf) seat) (one_of place task) views gateways old new came
+lent_step one other shelf seat place task views gateways old new came same step = subst (λ (s : Script). TaskStep (line (setting_by s shelf) seat) (one_of place task) views gateways old new came) same step
 
 module _ {R : Type 0} (tells : R → Script → List Task → List Outcome → Type 0) (setting : Setting) (seat : Hand → ℕ) (place : ℕ) (tasks : List Task) (task : Task) (views : Holdings) (shown gateways : List Sight) (start mid new : List Entry) (report : R)
     (within : place < length tasks) (is : task ≡ get_or tasks place task) where
@@ -96,7 +96,7 @@ module _ {R : Type 0} (tells : R → Script → List Task → List Outcome → T
   front_more = take_more tasks place task within ∙ ap (λ (t : Task). take place tasks ++ t ∷ []) (sym is)
 
   -- the runs of both
-  both_run : (d : TasksDone tells setting seat (take place tasks) views shown start mid report) (made : List Entry) (ends : List End) (after : Holdings)
+  both_run : (d : TasksDone (tells report) (line setting seat) (take place tasks) views shown start mid) (made : List Entry) (ends : List End) (after : Holdings)
       → InLine setting seat d.after (duties_at setting place (task ∷ [])) made ends after → InLine setting seat views (duties_at setting 0 (take (place + 1) tasks)) (d.made ++ made) (d.ends ++ ends) after
   both_run d made ends after run =
       let whole = told_length setting 0 (take place tasks) d.ends d.outcomes d.told in
@@ -111,9 +111,9 @@ module _ {R : Type 0} (tells : R → Script → List Task → List Outcome → T
   front_length (suc n) [] below = absurd (omega (arith, below))
   front_length (suc n) (t ∷ ts) below = ap suc (front_length n ts (omega (arith, below)))
 
-  pub done_more : (o : Outcome) (more : R) → (d : TasksDone tells setting seat (take place tasks) views shown start mid report)
-      → ((v : Holdings) → AreSeen v shown → TaskStep setting seat place task v gateways mid new (Ok o))
-      → ((ts : List Task) (os : List Outcome) → tells report setting.script ts os → tells more setting.script (ts ++ task ∷ []) (os ++ o ∷ [])) → TasksDone tells setting seat (take (place + 1) tasks) views gateways start new more
+  pub done_more : (o : Outcome) (more : R) → (d : TasksDone (tells report) (line setting seat) (take place tasks) views shown start mid)
+      → ((v : Holdings) → AreSeen v shown → TaskStep (line setting seat) (one_of place task) v gateways mid new (Ok o))
+      → ((ts : List Task) (os : List Outcome) → tells report setting.script ts os → tells more setting.script (ts ++ task ∷ []) (os ++ o ∷ [])) → TasksDone (tells more) (line setting seat) (take (place + 1) tasks) views gateways start new
   done_more o more d step adds =
       let s = step d.after d.shows in
       let at : 0 + length (take place tasks) ≡ place = omega (arith, front_length place tasks within) in
@@ -130,7 +130,7 @@ module _ {R : Type 0} (tells : R → Script → List Task → List Outcome → T
         report_is = subst (λ (ts : List Task). tells more setting.script ts (d.outcomes ++ o ∷ [])) (sym front_more) (adds (take place tasks) d.outcomes d.report_is);
       }
 
-  cut_run : All (λ t. MayBegin setting t.work) (drop (place + 1) tasks) → (d : TasksDone tells setting seat (take place tasks) views shown start mid report) (made : List Entry) (ends : List End) (after : Holdings)
+  cut_run : All (λ t. MayBegin setting t.work) (drop (place + 1) tasks) → (d : TasksDone (tells report) (line setting seat) (take place tasks) views shown start mid) (made : List Entry) (ends : List End) (after : Holdings)
       → InLine setting seat d.after (duties_at setting place (task ∷ [])) made ends after → InLine setting seat views (duties_at setting 0 tasks) (d.made ++ made) (d.ends ++ ends) after
   cut_run begin d made ends after run =
       subst (λ (ds : List Duty). InLine setting seat views ds (d.made ++ made) (d.ends ++ ends) after) (sym (duties_parts (gateway_count setting.script.gateways) (place + 1) tasks))
@@ -138,7 +138,7 @@ module _ {R : Type 0} (tells : R → Script → List Task → List Outcome → T
       (duties_begin setting (gateway_count setting.script.gateways) (0 + length (take (place + 1) tasks)) (drop (place + 1) tasks) begin) (both_run d made ends after run))
 
   -- an operation that is due in the task is due in all of them
-  cut_due : All (λ t. MayBegin setting t.work) (drop (place + 1) tasks) → (d : TasksDone tells setting seat (take place tasks) views shown start mid report) (made : List Entry)
+  cut_due : All (λ t. MayBegin setting t.work) (drop (place + 1) tasks) → (d : TasksDone (tells report) (line setting seat) (take place tasks) views shown start mid) (made : List Entry)
       → IsDueInLine setting seat d.after (duties_at setting place (task ∷ [])) made → IsDueInLine setting seat views (duties_at setting 0 tasks) (d.made ++ made)
   cut_due begin d made due = (
     due.0,
@@ -156,13 +156,13 @@ module _ {R : Type 0} (tells : R → Script → List Task → List Outcome → T
   )
 
   -- broken off for want of memory
-  pub cut_short : (came : Result Outcome Broken) → All (λ t. MayBegin setting t.work) (drop (place + 1) tasks) → (d : TasksDone tells setting seat (take place tasks) views shown start mid report)
-      → ((v : Holdings) → AreSeen v shown → TaskStep setting seat place task v gateways mid new came) → TasksBroken setting seat tasks views start new broken.NoMemory
+  pub cut_short : (came : Result Outcome Broken) → All (λ t. MayBegin setting t.work) (drop (place + 1) tasks) → (d : TasksDone (tells report) (line setting seat) (take place tasks) views shown start mid)
+      → ((v : Holdings) → AreSeen v shown → TaskStep (line setting seat) (one_of place task) v gateways mid new came) → TasksBroken (line setting seat) tasks views start new broken.NoMemory
   cut_short came begin d step =
       let s = step d.after d.shows in
       record { made = d.made ++ s.made; entries = both_entries d.made s.made d.entries s.entries; ends = d.ends ++ s.ends; after = s.after; run = cut_run begin d s.made s.ends s.after s.run; short = tt }
 
-  too_few : (d : TasksDone tells setting seat (take place tasks) views shown start mid report) (own : List End) → length own < length (duties_at setting place (task ∷ [])) → length (d.ends ++ own) < length (duties_at setting 0 tasks)
+  too_few : (d : TasksDone (tells report) (line setting seat) (take place tasks) views shown start mid) (own : List End) → length own < length (duties_at setting place (task ∷ [])) → length (d.ends ++ own) < length (duties_at setting 0 tasks)
   too_few d own less =
       let gateways = gateway_count setting.script.gateways in
       omega (
@@ -177,15 +177,15 @@ module _ {R : Type 0} (tells : R → Script → List Task → List Outcome → T
       )
 
   -- broken off by the full journal
-  cut_full : All (λ t. MayBegin setting t.work) (drop (place + 1) tasks) → (d : TasksDone tells setting seat (take place tasks) views shown start mid report)
-      → ((v : Holdings) → AreSeen v shown → TaskStep setting seat place task v gateways mid new (Err broken.Full)) → TasksBroken setting seat tasks views start new broken.Full
+  cut_full : All (λ t. MayBegin setting t.work) (drop (place + 1) tasks) → (d : TasksDone (tells report) (line setting seat) (take place tasks) views shown start mid)
+      → ((v : Holdings) → AreSeen v shown → TaskStep (line setting seat) (one_of place task) v gateways mid new (Err broken.Full)) → TasksBroken (line setting seat) tasks views start new broken.Full
   cut_full begin d step =
       let s = step d.after d.shows in
       record { made = d.made ++ s.made; entries = both_entries d.made s.made d.entries s.entries; ends = d.ends ++ s.ends; after = s.after; run = cut_run begin d s.made s.ends s.after s.run; short = (too_few d s.ends s.whole, cut_due begin d s.made s.due) }
 
   -- broken off, for whatever cause
-  pub cut_off : (why : Broken) → All (λ t. MayBegin setting t.work) (drop (place + 1) tasks) → (d : TasksDone tells setting seat (take place tasks) views shown start mid report)
-      → ((v : Holdings) → AreSeen v shown → TaskStep setting seat place task v gateways mid new (Err why)) → TasksBroken setting seat tasks views start new why
+  pub cut_off : (why : Broken) → All (λ t. MayBegin setting t.work) (drop (place + 1) tasks) → (d : TasksDone (tells report) (line setting seat) (take place tasks) views shown start mid)
+      → ((v : Holdings) → AreSeen v shown → TaskStep (line setting seat) (one_of place task) v gateways mid new (Err why)) → TasksBroken (line setting seat) tasks views start new why
   cut_off broken.Full begin d step = cut_full begin d step
   cut_off broken.NoMemory begin d step = cut_short (Err broken.NoMemory) begin d step
 
@@ -195,7 +195,7 @@ take_none (t ∷ ts) = refl
 
 -- before the first task
 pub done_none : {R : Type 0} (tells : R → Script → List Task → List Outcome → Type 0) (setting : Setting) (seat : Hand → ℕ) (tasks : List Task) (views : Holdings) (gateways : List Sight) (journal : List Entry) (report : R) → AreSeen views gateways → tells report setting.script [] []
-    → TasksDone tells setting seat (take 0 tasks) views gateways journal journal report
+    → TasksDone (tells report) (line setting seat) (take 0 tasks) views gateways journal journal
 unfolding duties_from
 done_none tells setting seat tasks views gateways journal report shows none = record {
   made = [];

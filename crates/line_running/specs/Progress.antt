@@ -7,8 +7,10 @@ use Rattle.script_workers.specs.Hands.{gateway_count, gateway_of}
 use Rattle.script_workers.specs.declared.hand.Hand.{Hand}
 use Rattle.script_workers.specs.declared.phase.Phase.{Phase}
 use Rattle.script_workers.specs.declared.task.Task.{Task}
+use Rattle.script_workers.specs.declared.worker.Worker.{Worker}
+use Rattle.report_lines.specs.lifecycle_core.specs.Conducts.{Assigned}
 use Rattle.report_lines.specs.lifecycle_core.specs.Holdings.{Holding, Holdings, holding_of, none_held, with_holding}
-use Rattle.report_lines.specs.lifecycle_core.specs.InLine.{Duty, duties_from, InLine, in_line, who_does}
+use Rattle.report_lines.specs.lifecycle_core.specs.InLine.{Duty, duties_from, InLine, in_line, seat_of, who_does}
 use Rattle.report_lines.specs.lifecycle_core.specs.Setting.{Setting}
 use Rattle.report_lines.specs.lifecycle_core.specs.Tasks.{End, TaskRun}
 use Rattle.report_lines.specs.lifecycle_core.specs.Ways.{AreInTurn, AreUnfinished, IsDue, IsDueAfter, IsOperationDue, PhasesRun}
@@ -28,6 +30,15 @@ pub record HaveMeans (script : Script) (loan : Loan) (tasks : List Task) (sights
   pub allowed : All (λ task. Allows loan.script task.work) tasks
   pub ready : sights ≡ length loan.script.gateways
 
+-- how the tasks of a phase are done in line: by which setting, and from whose seats
+pub record Line : Type 0 where
+  pub setting : Setting
+  pub seat : Hand → ℕ
+
+-- that of these workers
+abbrev pub line_by : Setting → List Worker → Line
+line_by setting workers = record { setting = setting; seat = seat_of workers }
+
 -- ---- one task
 
 -- the duties of the task at a place
@@ -35,16 +46,16 @@ abbrev pub duties_at : Setting → ℕ → List Task → List Duty
 duties_at setting place tasks = duties_from (gateway_count setting.script.gateways) place tasks
 
 -- a worker's part of the task at a place: its entries and what it came to
-pub record PartStep (setting : Setting) (seat : Hand → ℕ) (place : ℕ) (task : Task) (hand : Hand) (views : Holdings) (gateways : List Sight) (old new : List Entry) (came : Result Part Broken) : Type 0 where
+pub record PartStep (line : Line) (duty : Duty) (views : Holdings) (gateways : List Sight) (old new : List Entry) (came : Result Part Broken) : Type 0 where
   pub made : List Entry
   pub entries : new ≡ old ++ made
-  pub seats : All (λ e. e.seat ≡ seat hand) made
+  pub seats : All (λ e. e.seat ≡ line.seat duty.hand) made
   pub end : Option End
   pub after : Holding
-  pub run : TaskRun setting (who_does seat hand) place task.work (holding_of views (gateway_of hand)) made end after
-  pub shows : WhenDone came (AreSeen (with_holding views (gateway_of hand) after) gateways)
-  pub by : CameBy task.work end came
-  pub due : WhenFull came (IsDueAfter (Does (TaskRun setting (who_does seat hand) place task.work (holding_of views (gateway_of hand)))) (seat hand) made)
+  pub run : TaskRun line.setting (who_does line.seat duty.hand) duty.place duty.task.work (holding_of views (gateway_of duty.hand)) made end after
+  pub shows : WhenDone came (AreSeen (with_holding views (gateway_of duty.hand) after) gateways)
+  pub by : CameBy duty.task.work end came
+  pub due : WhenFull came (IsDueAfter (Does (TaskRun line.setting (who_does line.seat duty.hand) duty.place duty.task.work (holding_of views (gateway_of duty.hand)))) (line.seat duty.hand) made)
 
 -- the task has come to all its ends, or the full journal left one out
 abbrev pub IsWhole : Setting → ℕ → Task → List End → Result Outcome Broken → Type 0
@@ -57,15 +68,15 @@ abbrev pub IsDueInLine : Setting → (Hand → ℕ) → Holdings → List Duty �
 IsDueInLine setting seat views duties made = IsDue (λ entries (run : List End × Holdings). InLine setting seat views duties entries run.0 run.1) made
 
 -- a task's entries and what it came to
-pub record TaskStep (setting : Setting) (seat : Hand → ℕ) (place : ℕ) (task : Task) (views : Holdings) (gateways : List Sight) (old new : List Entry) (came : Result Outcome Broken) : Type 0 where
+pub record TaskStep (line : Line) (one : Assigned) (views : Holdings) (gateways : List Sight) (old new : List Entry) (came : Result Outcome Broken) : Type 0 where
   pub made : List Entry
   pub entries : new ≡ old ++ made
   pub ends : List End
   pub after : Holdings
-  pub run : InLine setting seat views (duties_at setting place (task ∷ [])) made ends after
+  pub run : InLine line.setting line.seat views (duties_at line.setting one.place (one.task ∷ [])) made ends after
   pub shows : WhenDone came (AreSeen after gateways)
-  pub whole : IsWhole setting place task ends came
-  pub due : WhenFull came (IsDueInLine setting seat views (duties_at setting place (task ∷ [])) made)
+  pub whole : IsWhole line.setting one.place one.task ends came
+  pub due : WhenFull came (IsDueInLine line.setting line.seat views (duties_at line.setting one.place (one.task ∷ [])) made)
 
 -- ---- the tasks of a phase
 
@@ -78,17 +89,17 @@ TasksTold setting place (task ∷ tasks) ends outcomes =
     × (ends ≡ own ++ others) × (length own ≡ length (duties_at setting place (task ∷ []))) × IsOutcome task.work own o
     × (outcomes ≡ o ∷ later) × TasksTold setting (place + 1) tasks others later
 
--- tasks that were done to their ends, and what is reported of them
-pub record TasksDone {R : Type 0} (tells : R → Script → List Task → List Outcome → Type 0) (setting : Setting) (seat : Hand → ℕ) (tasks : List Task) (views : Holdings) (gateways : List Sight) (old new : List Entry) (report : R) : Type 0 where
+-- tasks that were done to their ends, of which a report tells
+pub record TasksDone (told_of : Script → List Task → List Outcome → Type 0) (line : Line) (tasks : List Task) (views : Holdings) (gateways : List Sight) (old new : List Entry) : Type 0 where
   pub made : List Entry
   pub entries : new ≡ old ++ made
   pub ends : List End
   pub after : Holdings
-  pub run : InLine setting seat views (duties_at setting 0 tasks) made ends after
+  pub run : InLine line.setting line.seat views (duties_at line.setting 0 tasks) made ends after
   pub shows : AreSeen after gateways
   pub outcomes : List Outcome
-  pub told : TasksTold setting 0 tasks ends outcomes
-  pub report_is : tells report setting.script tasks outcomes
+  pub told : TasksTold line.setting 0 tasks ends outcomes
+  pub report_is : told_of line.setting.script tasks outcomes
 
 -- where the journal is full, some duty has no end, and an operation is due
 abbrev pub IsShort : Broken → List End → List Duty → Type 0 → Type 0
@@ -96,13 +107,13 @@ IsShort broken.Full ends duties is_due = (length ends < length duties) × is_due
 IsShort broken.NoMemory ends duties is_due = Unit {0}
 
 -- tasks that were broken off
-pub record TasksBroken (setting : Setting) (seat : Hand → ℕ) (tasks : List Task) (views : Holdings) (old new : List Entry) (why : Broken) : Type 0 where
+pub record TasksBroken (line : Line) (tasks : List Task) (views : Holdings) (old new : List Entry) (why : Broken) : Type 0 where
   pub made : List Entry
   pub entries : new ≡ old ++ made
   pub ends : List End
   pub after : Holdings
-  pub run : InLine setting seat views (duties_at setting 0 tasks) made ends after
-  pub short : IsShort why ends (duties_at setting 0 tasks) (IsDueInLine setting seat views (duties_at setting 0 tasks) made)
+  pub run : InLine line.setting line.seat views (duties_at line.setting 0 tasks) made ends after
+  pub short : IsShort why ends (duties_at line.setting 0 tasks) (IsDueInLine line.setting line.seat views (duties_at line.setting 0 tasks) made)
 
 -- ---- phases
 

@@ -9,7 +9,6 @@ ghost use Rattle.world_core.specs.Limits.{moment_limit};
 ghost use Rattle.script_core.specs.Workers.{seats_before};
 ghost use Rattle.script_core.specs.Lawful.{IsLawfulScript};
 ghost use Rattle.report_lines.specs.lifecycle_core.specs.Holdings.{Holdings};
-ghost use Rattle.report_lines.specs.lifecycle_core.specs.InLine.{seat_of};
 ghost use Rattle.report_lines.specs.lifecycle_core.specs.Ways.{BeginsPhase};
 ghost use Rattle.report_lines.specs.script_running.specs.Beside.{AreSeen};
 ghost use Rattle.report_lines.specs.script_running.specs.Shelves.{setting_by};
@@ -17,6 +16,7 @@ ghost use Rattle.report_lines.specs.script_running.specs.Sights.{no_sight};
 ghost use Rattle.report_lines.specs.script_running.specs.Tasks.{is_full_came, is_short_came};
 ghost use Rattle.run_notes.specs.RunHands.{TurnedRun};
 ghost use Rattle.line_running.specs.Progress.{HaveMeans, PhaseStep, Reached, RunCame, TasksBroken, TasksDone};
+ghost use Rattle.line_running.specs.Lines.{line_of};
 
 use crate::seats::Seats;
 use crate::tasks::{PhaseWork, do_task};
@@ -172,12 +172,10 @@ fn run_tasks<B: Bucket, R: PhaseReport + Drop>(
         (length sights.old) }
     ensures came { (views : Holdings) → AreSeen views sights.old
         → MatchResult result
-        (λ lines. TasksDone R.tells (setting_by phase.now.script.now phase.now.means.now.shelf)
-        (seat_of phase.now.seats.workers) phase.now.tasks.now views sights.new
-        hand.old.world.journal hand.new.world.journal lines)
-        (λ broken. TasksBroken (setting_by phase.now.script.now phase.now.means.now.shelf)
-        (seat_of phase.now.seats.workers) phase.now.tasks.now views
-        hand.old.world.journal hand.new.world.journal broken) }
+        (λ lines. TasksDone (R.tells lines) (line_of phase.now) phase.now.tasks.now
+        views sights.new hand.old.world.journal hand.new.world.journal)
+        (λ broken. TasksBroken (line_of phase.now) phase.now.tasks.now
+        views hand.old.world.journal hand.new.world.journal broken) }
     ensures hand { TurnedRun B.told hand.old hand.new (is_full_came result)
         (is_short_came result) }
     ensures ready { length sights.new ≡ length sights.old }
@@ -201,16 +199,13 @@ fn next_task<B: Bucket, R: PhaseReport + Drop>(
         (length sights.old) }
     requires within { place < length phase.now.tasks.now }
     ensures came { (views : Holdings) (start : List Entry)
-        → TasksDone R.tells (setting_by phase.now.script.now phase.now.means.now.shelf)
-        (seat_of phase.now.seats.workers) (take place phase.now.tasks.now) views
-        sights.old start hand.old.world.journal lines.old
+        → TasksDone (R.tells lines.old) (line_of phase.now) (take place phase.now.tasks.now)
+        views sights.old start hand.old.world.journal
         → MatchResult result
-        (λ done. TasksDone R.tells (setting_by phase.now.script.now phase.now.means.now.shelf)
-        (seat_of phase.now.seats.workers) (take (place + 1) phase.now.tasks.now) views
-        sights.new start hand.new.world.journal lines.new)
-        (λ broken. TasksBroken (setting_by phase.now.script.now phase.now.means.now.shelf)
-        (seat_of phase.now.seats.workers) phase.now.tasks.now views start
-        hand.new.world.journal broken) }
+        (λ done. TasksDone (R.tells lines.new) (line_of phase.now)
+        (take (place + 1) phase.now.tasks.now) views sights.new start hand.new.world.journal)
+        (λ broken. TasksBroken (line_of phase.now) phase.now.tasks.now
+        views start hand.new.world.journal broken) }
     ensures hand { TurnedRun B.told hand.old hand.new (is_full_came result)
         (is_short_came result) }
     ensures ready { length sights.new ≡ length sights.old }

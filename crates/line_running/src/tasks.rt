@@ -6,13 +6,12 @@ ghost use Rattle.script_workers.specs.Hands.{gateway_of, hands_of_task, own_hand
 ghost use Rattle.script_workers.specs.declared.hand.Hand.{Hand};
 ghost use Rattle.script_workers.specs.declared.work.Work.{Work};
 ghost use Rattle.report_lines.specs.lifecycle_core.specs.Holdings.{Holdings};
-ghost use Rattle.report_lines.specs.lifecycle_core.specs.InLine.{seat_of};
 ghost use Rattle.report_lines.specs.script_running.specs.Beside.{AreSeen};
 ghost use Rattle.report_lines.specs.script_running.specs.Lending.{setting_in};
 ghost use Rattle.report_lines.specs.script_running.specs.Outcomes.{AreAllParts, IsOutcomeOf};
 ghost use Rattle.report_lines.specs.script_running.specs.Tasks.{Allows, is_full_came, is_short_came};
 ghost use Rattle.run_notes.specs.RunHands.{TurnedRun};
-ghost use Rattle.line_running.specs.Progress.{PartStep, TaskStep};
+ghost use Rattle.line_running.specs.Progress.{PartStep, TaskStep, line_by};
 
 use crate::seats::Seats;
 use base::NoMemory;
@@ -45,8 +44,8 @@ pub(crate) fn do_task<B: Bucket>(
     requires work { Allows phase.now.means.now.script task.now.work }
     requires ready { length sights.old ≡ length phase.now.means.now.script.gateways }
     ensures step { (views : Holdings) → AreSeen views sights.old
-        → TaskStep (setting_in phase.now.means.now)
-        (seat_of phase.now.seats.workers) place task.now views sights.new
+        → TaskStep (line_by (setting_in phase.now.means.now) phase.now.seats.workers)
+        (record { place = place; task = task.now }) views sights.new
         hand.old.world.journal hand.new.world.journal result }
     ensures hand { TurnedRun B.told hand.old hand.new (is_full_came result)
         (is_short_came result) }
@@ -114,7 +113,8 @@ fn do_part<B: Bucket>(
     requires within { IfSome (gateway_of who) (λ gateway. gateway < length sights.old) }
     ensures step { (seat : Hand → ℕ) (place : ℕ) (views : Holdings) → hand.old.seat ≡ seat who
         → AreSeen views sights.old
-        → PartStep (setting_in means.now) seat place task.now who views sights.new
+        → PartStep (record { setting = setting_in means.now; seat = seat })
+        (record { place = place; hand = who; task = task.now }) views sights.new
         hand.old.world.journal hand.new.world.journal result }
     ensures hand { TurnedRun B.told hand.old hand.new (is_full_came result)
         (is_short_came result) }

@@ -3,6 +3,7 @@ use Rattle.std.specs.Prelude.{MatchResult}
 use Rattle.report_lines.specs.lifecycle_core.specs.InLine.{seat_of}
 use Rattle.report_lines.specs.script_running.specs.Shelves.{setting_by}
 use Rattle.script_workers.specs.declared.task.Task.{Task}
+use Rattle.line_running.specs.Lines.{line_of}
 use Rattle.line_running.specs.Progress.{TasksBroken, TasksDone}
 use Rattle.line_running.proofs.Told.{done_none, take_whole}
 use Rattle.line_running.proofs.Turns.{By, broke, idle, result_is, then_more}
@@ -21,7 +22,7 @@ next_task-requires-clause-means g c =
 
 pub returns-in_err-next_task-clause-came : goal.returns-in_err-next_task-clause-came
 returns-in_err-next_task-clause-came g c = λ views shows.
-    subst (λ r. MatchResult r (λ lines. TasksDone g.R.Report.tells (setting_by c.args.phase.now.script.now c.args.phase.now.means.now.shelf) (seat_of c.args.phase.now.seats.workers) c.args.phase.now.tasks.now views c.next_task.new.sights c.args.hand.now.world.journal c.next_task.new.hand.world.journal lines) (λ broken. TasksBroken (setting_by c.args.phase.now.script.now c.args.phase.now.means.now.shelf) (seat_of c.args.phase.now.seats.workers) c.args.phase.now.tasks.now views c.args.hand.now.world.journal c.next_task.new.hand.world.journal broken))
+    subst (λ r. MatchResult r (λ lines. TasksDone (g.R.Report.tells lines) (line_of c.args.phase.now) c.args.phase.now.tasks.now views c.next_task.new.sights c.args.hand.now.world.journal c.next_task.new.hand.world.journal) (λ broken. TasksBroken (line_of c.args.phase.now) c.args.phase.now.tasks.now views c.args.hand.now.world.journal c.next_task.new.hand.world.journal broken))
     (sym (result_is c.from_residual.result c.in_err-next_task.field-0.0 c.from_residual.ensures.1)) (c.in_err-next_task.ensures.came views c.args.hand.now.world.journal (c.loop-place.invariant.done views shows))
 
 pub returns-in_err-next_task-clause-hand : goal.returns-in_err-next_task-clause-hand
@@ -38,7 +39,7 @@ loop-place-preserved g c = record {
 
 pub returns-clause-came : goal.returns-clause-came
 returns-clause-came g c = λ views shows.
-    subst (λ (ts : List Task). TasksDone g.R.Report.tells (setting_by c.args.phase.now.script.now c.args.phase.now.means.now.shelf) (seat_of c.args.phase.now.seats.workers) ts views c.loop-place.sights c.args.hand.now.world.journal c.loop-place.hand.world.journal c.loop-place.lines)
+    subst (λ (ts : List Task). TasksDone (g.R.Report.tells c.loop-place.lines) (line_of c.args.phase.now) ts views c.loop-place.sights c.args.hand.now.world.journal c.loop-place.hand.world.journal)
     (take_whole c.args.phase.now.tasks.now c.loop-place.place (omega (arith, c.loop-place-test.false))) (c.loop-place.invariant.done views shows)
 
 pub returns-clause-hand : goal.returns-clause-hand

@@ -1,9 +1,8 @@
 use Rattle.std.proofs.Common.{◌≡◌, false, take, length}
 use Rattle.report_lines.specs.lifecycle_core.specs.Holdings.{Holdings}
-use Rattle.report_lines.specs.lifecycle_core.specs.InLine.{seat_of}
-use Rattle.report_lines.specs.script_running.specs.Shelves.{setting_by}
 use Rattle.report_lines.specs.script_running.specs.Beside.{AreSeen}
 use Rattle.run_notes.specs.RunHands.{TurnedRun}
+use Rattle.line_running.specs.Lines.{line_of}
 use Rattle.line_running.specs.Progress.{TasksDone}
 use Rattle.line_running.proofs.phases.run_tasks.Given as goal
 
@@ -11,7 +10,7 @@ use Rattle.line_running.proofs.phases.run_tasks.Given as goal
 abbrev pub invariant-loop-place : goal.invariant-loop-place
 invariant-loop-place g l = record {
   done : (views : Holdings) → AreSeen views l.initial.sights
-      → TasksDone g.R.Report.tells (setting_by l.phase.script.now l.phase.means.now.shelf) (seat_of l.phase.seats.workers) (take l.place l.phase.tasks.now) views l.sights l.initial.hand.world.journal l.hand.world.journal l.lines;
+      → TasksDone (g.R.Report.tells l.lines) (line_of l.phase) (take l.place l.phase.tasks.now) views l.sights l.initial.hand.world.journal l.hand.world.journal;
   hand : TurnedRun g.B.Bucket.told l.initial.hand l.hand false false;
   ready : length l.sights ≡ length l.initial.sights;
 }

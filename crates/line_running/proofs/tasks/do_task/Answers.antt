@@ -6,7 +6,7 @@ use Rattle.report_lines.specs.lifecycle_core.specs.InLine.{seat_of}
 use Rattle.report_lines.specs.script_running.specs.Lending.{setting_in}
 use Rattle.report_lines.specs.script_running.specs.Outcomes.{Outcome}
 use Rattle.report_lines.specs.script_running.proofs.AllParts.{all_parts, few_parts}
-use Rattle.line_running.proofs.Steps.{all_done, counted, duties_long, duty_at, gathered_is, none_begun, none_done, part_broken, part_more, sync_within, task_begins}
+use Rattle.line_running.proofs.Steps.{all_done, counted, duties_long, duty_at, duty_of, gathered_is, line, none_begun, none_done, part_broken, part_more, sync_within, task_begins}
 use Rattle.line_running.proofs.Turns.{broke, ended, idle, not_full, seated, still, then_more}
 use Rattle.line_running.proofs.tasks.do_task.Goals as goal
 
@@ -51,7 +51,7 @@ returns-in-Err-clause-step g c = λ views shows.
     let f = c.loop-number.invariant.done views shows in
     part_broken (setting_in m) seat c.args.place c.args.task.now views c.loop-number.number c.hand_at-who.result c.loop-number.sights c.do_part.new.sights
     c.args.hand.now.world.journal c.loop-number.hand.world.journal c.do_part.new.hand.world.journal c.loop-number.parts.items f (duty_at (setting_in m) c.args.place c.loop-number.number c.args.task.now c.hand_at-who.result at)
-    (task_begins (setting_in m) c.args.place c.args.task.now c.requires.lawful c.requires.work) c.do_part.result c.in-Err.broken c.in-Err.is (subst (λ (es : List Entry). PartStep (setting_in m) seat c.args.place c.args.task.now c.hand_at-who.result f.after c.do_part.new.sights es c.do_part.new.hand.world.journal c.do_part.result) (ap (λ h. h.world.journal) c.at_seat.ensures)
+    (task_begins (setting_in m) c.args.place c.args.task.now c.requires.lawful c.requires.work) c.do_part.result c.in-Err.broken c.in-Err.is (subst (λ (es : List Entry). PartStep (line (setting_in m) seat) (duty_of c.args.place c.args.task.now c.hand_at-who.result) f.after c.do_part.new.sights es c.do_part.new.hand.world.journal c.do_part.result) (ap (λ h. h.world.journal) c.at_seat.ensures)
     (c.do_part.ensures.step seat c.args.place f.after (ap (λ h. h.seat) c.at_seat.ensures ∙ c.seat_of.ensures) f.shows))
 
 pub returns-in-Err-clause-hand : goal.returns-in-Err-clause-hand
@@ -69,7 +69,7 @@ loop-number-preserved g c =
           let f = c.loop-number.invariant.done views shows in
           part_more (setting_in m) seat c.args.place c.args.task.now views c.loop-number.number c.hand_at-who.result c.loop-number.sights c.do_part.new.sights
           c.args.hand.now.world.journal c.loop-number.hand.world.journal c.do_part.new.hand.world.journal c.loop-number.parts.items f (duty_at (setting_in m) c.args.place c.loop-number.number c.args.task.now c.hand_at-who.result at)
-          c.do_part.result c.in-Ok-do_part.part c.push_reserved.new.self.items c.in-Ok-do_part.is c.push_reserved.ensures.items (subst (λ (es : List Entry). PartStep (setting_in m) seat c.args.place c.args.task.now c.hand_at-who.result f.after c.do_part.new.sights es c.do_part.new.hand.world.journal c.do_part.result) (ap (λ h. h.world.journal) c.at_seat.ensures)
+          c.do_part.result c.in-Ok-do_part.part c.push_reserved.new.self.items c.in-Ok-do_part.is c.push_reserved.ensures.items (subst (λ (es : List Entry). PartStep (line (setting_in m) seat) (duty_of c.args.place c.args.task.now c.hand_at-who.result) f.after c.do_part.new.sights es c.do_part.new.hand.world.journal c.do_part.result) (ap (λ h. h.world.journal) c.at_seat.ensures)
           (c.do_part.ensures.step seat c.args.place f.after (ap (λ h. h.seat) c.at_seat.ensures ∙ c.seat_of.ensures) f.shows));
       hand = then_more g.B.Bucket.told c.args.hand.now c.loop-number.hand c.do_part.new.hand _ _ c.loop-number.invariant.hand
           (ended g.B.Bucket.told c.loop-number.hand c.do_part.new.hand c.do_part.result c.in-Ok-do_part.part c.in-Ok-do_part.is
