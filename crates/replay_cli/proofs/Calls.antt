@@ -100,10 +100,10 @@ module _ {B F : Type 0} (o : Outside B F) (bucket : List ℕ) (word : Option (Li
   may_run p members same is = subst (λ (own : List ShelfBlock). MayRun o.site.store p.script own p.world) (sym same) is.may
 
   pub ran : (way : Way) (p : Prepared B F) (members : List ShelfBlock) (new : WorldView B) (note : Option (RunNote B)) (v : Verdict) (ended : Ended B F) → members ≡ p.blocks → IsPrepared o bucket word p
-      → HasRun way o.site.store p.script members p.world v new note → IsEndOfRun o.site.store v new note p.shelf ended → Leaves way o (run_names bucket word) ended
+      → HasRun way o.site.store (setting_by p.script members) p.world v new note → IsEndOfRun o.site.store v new note p.shelf ended → Leaves way o (run_names bucket word) ended
   ran way p members new note v ended same is has end =
       let setting = setting_by p.script p.blocks in
-      let run = subst (λ (own : List ShelfBlock). HasRun way o.site.store p.script own p.world v new note) same has in
+      let run = subst (λ (own : List ShelfBlock). HasRun way o.site.store (setting_by p.script own) p.world v new note) same has in
       leaves way setting p.world new note p.shelf v ended is.may.lawful (subst (λ (s : Option F). HasOpened o bucket word p.script p.world s) (sym end.shelf) is.opened) is.may.fresh is.may.asked
       (behind_reading v (Some new.journal) (IfSome (files_of o.site.files o.site.before word ended.shelf) (IsOfShelf setting)) (subst (λ (s : Option F). IfSome (files_of o.site.files o.site.before word s) (IsOfShelf setting)) (sym end.shelf) is.told))
       (run_weaker (is_done_by way) setting (Some nothing) ⊥ _ (Some new.journal) v (λ no. absurd no) run.cause)

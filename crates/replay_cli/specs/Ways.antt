@@ -11,7 +11,7 @@ use Rattle.script_core.specs.declared.script.Script.{Script}
 use Rattle.run_notes.specs.declared.run_note.RunNote.{RunNote}
 use Rattle.call_verdicts.specs.lifecycle_core.specs.InLine.{IsInLine}
 use Rattle.call_verdicts.specs.lifecycle_core.specs.Setting.{Setting}
-use Rattle.call_verdicts.specs.script_running.specs.Shelves.{AreAllAtHand, setting_by}
+use Rattle.call_verdicts.specs.script_running.specs.Shelves.{AreAllAtHand}
 use Rattle.call_verdicts.specs.script_running.specs.declared.shelf.ShelfBlock.{ShelfBlock}
 use Rattle.call_verdicts.specs.Asked.{WasAsked, calls_asked, for_opening}
 use Rattle.call_verdicts.specs.Noted.{IsNoted, met, met_alone}
@@ -43,10 +43,9 @@ pub record MayRun {B : Type 0} (tells : B → BucketTold) (script : Script) (she
   pub tick : world.tick ≡ script.rules.tick.ms
   pub asked : WasAsked (calls_asked tells) for_opening world.bucket
 
--- It was run over the world in this way, and came to the verdict, with this world and this note.
-pub record HasRun {B : Type 0} (way : Way) (tells : B → BucketTold)
-    (script : Script) (shelf : List ShelfBlock) (old : WorldView B) (v : Verdict) (new : WorldView B) (note : Option (RunNote B)) : Type 0 where
-  pub cause : IsRun (is_done_by way) (setting_by script shelf) (Some nothing) ⊥ (Some new.journal) v
+-- Its script was run over the world in this way, and came to the verdict, with this world and this note.
+pub record HasRun {B : Type 0} (way : Way) (tells : B → BucketTold) (setting : Setting) (old : WorldView B) (v : Verdict) (new : WorldView B) (note : Option (RunNote B)) : Type 0 where
+  pub cause : IsRun (is_done_by way) setting (Some nothing) ⊥ (Some new.journal) v
   pub unfailed : failed_count new.journal ≡ 0 → (tells new.bucket).faults ≡ (tells old.bucket).faults
   -- unless want of memory is told, all that the bucket was asked is journaled if it was before
   pub all : v ≢ verdict.NoMemory → (before : List Call) → IsAllAsked tells before old → IsAllAsked tells before new

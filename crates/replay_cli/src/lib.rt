@@ -23,5 +23,6 @@ pub use laws::{
 };
 pub use replay::run_replay;
 pub use run_notes::RunNote;
+pub use runner::Crew;
 pub use standard::{ReaderSource, WriterSink};
 pub use tool::run_tool;

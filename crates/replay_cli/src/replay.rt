@@ -10,7 +10,7 @@ ghost use Rattle.replay_cli.specs.Ways.{beside};
 
 use crate::checking::Beside;
 use crate::preparing::{Prepared, end_run, prepare};
-use crate::runner::run_with_threads;
+use crate::runner::{Crew, run_with_threads};
 use bucket_core::{Sink, Site, Source};
 use call_verdicts::{Conclusion, Ended, Named, Run, Verdict, read_replay};
 use phase_runner::Gate;
@@ -22,13 +22,12 @@ use std::thread::Threads;
 ///
 /// It may wait, and its promise holds if it returns.
 pub fn run_replay<S: Site, R: Source, K: Sink, G: Gate + Sync, T: Threads + Wait + Sync>(
-    rt: &T,
+    crew: &Crew<'_, T, G>,
     alloc: Global,
     words: &[String],
     site: &mut S,
     script: &mut R,
     out: &mut K,
-    gate: &G,
 ) -> Run<S::Store, S::Files>
 where
     S::Store: Send,
@@ -39,14 +38,13 @@ where
         (site_call (S.told site.old) (S.told site.new) S.Store.told S.Files.told))
         (saying_to (K.told out.old) (K.told out.new)) result) }
 {
-    come_to(rt, alloc, gate, words, site, script).into_run(alloc, out)
+    come_to(crew, alloc, words, site, script).into_run(alloc, out)
 }
 
 /// Does all but the writing.
 fn come_to<S: Site, R: Source, G: Gate + Sync, T: Threads + Wait + Sync>(
-    rt: &T,
+    crew: &Crew<'_, T, G>,
     alloc: Global,
-    gate: &G,
     words: &[String],
     site: &mut S,
     script: &mut R,
@@ -58,7 +56,7 @@ where
         (replay_names words.now) result }
 {
     match read_replay(words) {
-        Some(named) => read_and_run(rt, alloc, gate, &named, site, script),
+        Some(named) => read_and_run(crew, alloc, &named, site, script),
         None => Ended {
             conclusion: Conclusion::without_bucket(Verdict::WordsRefused),
             shelf: None,
@@ -70,9 +68,8 @@ where
 /// Reads the script and runs it.
 #[tactic(auto, using(crate::proofs::Calls::may_run))]
 fn read_and_run<S: Site, R: Source, G: Gate + Sync, T: Threads + Wait + Sync>(
-    rt: &T,
+    crew: &Crew<'_, T, G>,
     alloc: Global,
-    gate: &G,
     named: &Named<'_>,
     site: &mut S,
     script: &mut R,
@@ -83,6 +80,7 @@ where
         (site_call (S.told site.old) (S.told site.new) S.Store.told S.Files.told))
         (run_names named.now.bucket.now (named_by named.now.shelf.now)) result }
 {
+    let rt = crew.threads;
     match prepare(alloc, named, site, script, &Beside { rt }) {
         Ok(
             Prepared {
@@ -92,14 +90,8 @@ where
                 shelf,
             },
         ) => {
-            let (verdict, run) = run_with_threads(
-                rt,
-                alloc,
-                gate,
-                &script,
-                blocks.members(),
-                world,
-            );
+            let read = blocks.members();
+            let (verdict, run) = run_with_threads(crew, alloc, &script, read, world);
             drop(blocks);
             drop(script);
             end_run(verdict, run, shelf)

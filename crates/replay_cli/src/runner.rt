@@ -3,6 +3,7 @@
 ghost use Rattle.std.specs.Prelude.{◌≡◌, Ok, Err, MatchBool};
 ghost use Rattle.world_core.specs.Worlds.{IsJournal, IsOfBytes};
 ghost use Rattle.script_core.specs.Lawful.{IsLawfulScript};
+ghost use Rattle.call_verdicts.specs.script_running.specs.Shelves.{setting_by};
 ghost use Rattle.replay_cli.specs.Endings.{EndsReport};
 ghost use Rattle.replay_cli.specs.Ways.{HasRun, MayRun, beside, in_line};
 
@@ -29,7 +30,7 @@ pub(crate) fn run_in_line<B: Bucket>(
     world: World<B>,
 ) -> (Verdict, Finished<B>)
     requires { MayRun B.told script.now shelf.now world }
-    ensures { HasRun in_line B.told script.now shelf.now world
+    ensures { HasRun in_line B.told (setting_by script.now shelf.now) world
         result.0 result.1.world result.1.note }
 {
     let (came, report, hand) = do_in_line(alloc, script, shelf, world);
@@ -39,28 +40,34 @@ pub(crate) fn run_in_line<B: Bucket>(
     (verdict, Finished::of_hand(hand))
 }
 
+/// With what the workers of a phase run beside each other: threads, and the gate before each operation.
+#[derive(Drop)]
+pub struct Crew<'a, T, G> {
+    pub threads: &'a T,
+    pub gate: &'a G,
+}
+
 /// Does the phases one after another, the workers of each beside each other in threads. The world comes with the note of its
 /// operations, unless nothing was begun.
 pub(crate) fn run_with_threads<B: Bucket + Send, G: Gate + Sync, T: Threads + Wait + Sync>(
-    rt: &T,
+    crew: &Crew<'_, T, G>,
     alloc: Global,
-    gate: &G,
     script: &Script,
     shelf: &[ShelfBlock],
     world: World<B>,
 ) -> (Verdict, Finished<B>)
     requires { MayRun B.told script.now shelf.now world }
-    ensures { HasRun beside B.told script.now shelf.now world
+    ensures { HasRun beside B.told (setting_by script.now shelf.now) world
         result.0 result.1.world result.1.note }
 {
-    run_telling(rt, alloc, gate, script, shelf, world, Beside { rt })
+    let rt = crew.threads;
+    run_telling(crew, alloc, script, shelf, world, Beside { rt })
 }
 
 /// Does the phases with their workers in threads, and puts the lines of answers' series in this way.
 fn run_telling<'a, B: Bucket + Send, G: Gate + Sync, T: Threads + Wait + Sync, W: SeriesWay + Drop>(
-    rt: &T,
+    crew: &Crew<'_, T, G>,
     alloc: Global,
-    gate: &G,
     script: &'a Script,
     shelf: &'a [ShelfBlock],
     world: World<B>,
@@ -68,11 +75,12 @@ fn run_telling<'a, B: Bucket + Send, G: Gate + Sync, T: Threads + Wait + Sync, W
 ) -> (Verdict, Finished<B>)
     requires may { MayRun B.told script.now shelf.now world }
     requires way { W.can_put way }
-    ensures { HasRun beside B.told script.now shelf.now world
+    ensures { HasRun beside B.told (setting_by script.now shelf.now) world
         result.0 result.1.world result.1.note }
 {
     let lent = Lent { script, shelf };
-    match run_beside(rt, alloc, &lent, world, gate, LinesBy::new(alloc, way)) {
+    let report = LinesBy::new(alloc, way);
+    match run_beside(crew.threads, alloc, &lent, world, crew.gate, report) {
         Ok((end, closed)) => {
             let RunEnd { report, came } = end;
             let came = with_wanted(came, closed.wanted_memory());

@@ -5,7 +5,7 @@ use bucket_core::{
     FileList, MemoryBucket, MemoryShelf, MemorySink, MemorySite, MemorySource, Site,
 };
 use phase_runner::Gate;
-use replay_cli::{Run, run_replay, run_tool};
+use replay_cli::{Crew, Run, run_replay, run_tool};
 use std::alloc::Global;
 use std::sync::Wait;
 use std::thread::Threads;
@@ -97,7 +97,8 @@ where
 {
     let run = match words {
         [call, ..] if call.as_str() == "replay" => {
-            run_replay(threads, alloc, words, site, source, out, gate)
+            let crew = Crew { threads, gate };
+            run_replay(&crew, alloc, words, site, source, out)
         }
         _ => run_tool(alloc, words, site, source, out),
     };

@@ -16,7 +16,7 @@ use crate::advice::tell;
 use crate::room::WithRoom;
 use bucket_core::{Sink, Site, Source};
 use dir_bucket::HostSite;
-use replay_cli::{ReaderSource, Run, Status, WriterSink, run_replay, run_tool};
+use replay_cli::{Crew, ReaderSource, Run, Status, WriterSink, run_replay, run_tool};
 use std::alloc::Global;
 use std::process::ExitCode;
 use std::sync::Wait;
@@ -69,15 +69,12 @@ where
         (saying_to (K.told out.old) (K.told out.new)) result) }
 {
     if asks_for_threads(words) {
-        run_replay(
+        let room = WithRoom::new(alloc);
+        let crew = Crew {
             threads,
-            alloc,
-            words,
-            site,
-            script,
-            out,
-            &WithRoom::new(alloc),
-        )
+            gate: &room,
+        };
+        run_replay(&crew, alloc, words, site, script, out)
     } else {
         run_tool(alloc, words, site, script, out)
     }

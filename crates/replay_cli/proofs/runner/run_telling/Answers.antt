@@ -17,7 +17,7 @@ use Rattle.replay_cli.proofs.Wanted.{alone_told, short_told, told_as}
 use Rattle.replay_cli.proofs.runner.run_telling.Goals as goal
 
 pub run_beside-requires-clause-untold : goal.run_beside-requires-clause-untold
-run_beside-requires-clause-untold g c = λ κs lives. no_lines c.new.result.lines c.args.script.now c.new.ensures
+run_beside-requires-clause-untold g c = λ κs lives. no_lines c.new-report.result.lines c.args.script.now c.new-report.ensures
 
 pub verdict_of-verdict-requires-clause-bytes : goal.verdict_of-verdict-requires-clause-bytes
 verdict_of-verdict-requires-clause-bytes g c = subst IsOfBytes (sym (c.entries.ensures ∙ c.journal-journal.ensures.journal)) c.journal-journal.ensures.holds.bytes
