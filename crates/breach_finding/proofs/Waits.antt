@@ -12,6 +12,7 @@ use Rattle.breach_finding.specs.Judging.{IsLateTold, IsWatchTurn}
 use Rattle.breach_finding.specs.Tables.{Numbers}
 use Rattle.breach_finding.specs.Walks.{UnderWays}
 use Rattle.breach_finding.specs.Watching.{IsWaiting}
+use Rattle.breach_finding.specs.declared.followed.Followed.{Followed}
 use Rattle.breach_finding.specs.declared.found.Refusal.{Refusal}
 use Rattle.breach_finding.specs.declared.watching.Told.{Told}
 
@@ -21,7 +22,7 @@ turn_waits rules old new e told w waits seat = elim (cases_Bool (is_eq (nat_cmp 
   | inr differs ↦ subst IsWaiting (sym (w.seats seat ∙ ap (λ b. cond b w.turn.under (get nat_cmp old seat)) differs)) (waits seat)
 ]
 
-pub late_waits : (script : Script) (lasts : Numbers) (old new : UnderWays) (seen given : Numbers) (gateway : ℕ) (e : Entry) (r : Result (Option Refusal) NoMemory) → IfOk r (IsLateTold script lasts old new seen given gateway e)
-    → ((seat : ℕ) → IsWaiting (get nat_cmp old seat)) → OnOk r ((seat : ℕ) → IsWaiting (get nat_cmp new seat))
-late_waits script lasts old new seen given gateway e (Ok late) told waits = turn_waits _ old new e _ told.turn waits
-late_waits script lasts old new seen given gateway e (Err none) told waits = tt
+pub late_waits : (script : Script) (lasts : Numbers) (old new : Followed) (gateway : ℕ) (e : Entry) (r : Result (Option Refusal) NoMemory) → IfOk r (IsLateTold script lasts old new gateway e)
+    → ((seat : ℕ) → IsWaiting (get nat_cmp old.unders seat)) → OnOk r ((seat : ℕ) → IsWaiting (get nat_cmp new.unders seat))
+late_waits script lasts old new gateway e (Ok late) told waits = turn_waits _ old.unders new.unders e _ told.turn waits
+late_waits script lasts old new gateway e (Err none) told waits = tt

@@ -3,6 +3,7 @@
 #![tactic(auto)]
 
 mod differing;
+mod followed;
 mod found;
 mod judging;
 mod laws;

@@ -16,11 +16,11 @@ ghost use Rattle.breach_finding.specs.Walks.{IsAnswer, setting_with};
 ghost use Rattle.breach_finding.specs.Watching.{IsWaiting};
 
 use crate::Standing;
+use crate::followed::Followed;
 use crate::found::{Breach, BreachRule, Refusal};
 use crate::judging::{early_refusal, first_of, late_refusal, refusal_by, stand};
 use crate::tables::{Tables, tables_of};
 use crate::times::compaction_lateness;
-use crate::watching::UnderWay;
 use base::NoMemory;
 use script_core::Script;
 use std::alloc::Global;
@@ -73,26 +73,24 @@ fn entry_refusal(
     alloc: Global,
     script: &Script,
     journal: &[Entry],
-    standing: &Standing,
     tables: &Tables,
-    unders: &mut BTreeMap<u32, UnderWay>,
-    views: &mut BTreeMap<u32, u64>,
+    followed: &mut Followed,
     entry: &Entry,
 ) -> Result<Option<Refusal>, NoMemory>
     requires span { script.now.rules.ignore.ms ≤ longest_span }
     requires lawful { IsLawful entry.now.op }
     requires small { entry.now.moment.ms < ulid_time_limit }
-    requires waits { (seat : ℕ) → IsWaiting (get nat_cmp unders.old seat) }
+    requires waits { (seat : ℕ) → IsWaiting (get nat_cmp followed.old.unders seat) }
     ensures told { IsReplyTo entry.now.op entry.now.reply
-        → IfOk result (IsEntryTold script.now journal.now standing.now tables.now
-        unders.old unders.new views.old views.new entry.now) }
-    ensures waits { OnOk result ((seat : ℕ) → IsWaiting (get nat_cmp unders.new seat)) }
+        → IfOk result (IsEntryTold script.now journal.now tables.now
+        followed.old followed.new entry.now) }
+    ensures waits { OnOk result ((seat : ℕ) → IsWaiting (get nat_cmp followed.new.unders seat)) }
 {
-    let early = early_refusal(alloc, script, journal, standing, entry)?;
+    let early = early_refusal(alloc, script, journal, &followed.standing, entry)?;
     if early.is_some() {
         return Ok(early);
     }
-    let late = watched_refusal(alloc, script, tables, unders, views, entry)?;
+    let late = watched_refusal(alloc, script, tables, followed, entry)?;
     let slow = compaction_lateness(tables, entry, script.rules.delete.ms);
     Ok(first_of(late, refusal_by(BreachRule::ReadTime, slow)))
 }
@@ -103,25 +101,22 @@ fn watched_refusal(
     alloc: Global,
     script: &Script,
     tables: &Tables,
-    unders: &mut BTreeMap<u32, UnderWay>,
-    views: &mut BTreeMap<u32, u64>,
+    followed: &mut Followed,
     entry: &Entry,
 ) -> Result<Option<Refusal>, NoMemory>
     requires span { script.now.rules.ignore.ms ≤ longest_span }
     requires lawful { IsLawful entry.now.op }
     requires small { entry.now.moment.ms < ulid_time_limit }
-    requires waits { (seat : ℕ) → IsWaiting (get nat_cmp unders.old seat) }
+    requires waits { (seat : ℕ) → IsWaiting (get nat_cmp followed.old.unders seat) }
     ensures told { IsReplyTo entry.now.op entry.now.reply → IfOk result (IsWatchedTold
-        script.now tables.now unders.old unders.new views.old views.new entry.now) }
-    ensures waits { OnOk result ((seat : ℕ) → IsWaiting (get nat_cmp unders.new seat)) }
+        script.now tables.now followed.old followed.new entry.now) }
+    ensures waits { OnOk result ((seat : ℕ) → IsWaiting (get nat_cmp followed.new.unders seat)) }
 {
     if !is_reply_to(&entry.op, &entry.reply) {
         return Ok(None);
     }
     match tables.gateways.get(&entry.seat) {
-        Some(gateway) => {
-            late_refusal(alloc, script, &tables.lasts, unders, views, *gateway, entry)
-        }
+        Some(gateway) => { late_refusal(alloc, script, &tables.lasts, followed, *gateway, entry) }
         None => Ok(None),
     }
 }
@@ -138,25 +133,21 @@ pub fn breach(alloc: Global, journal: &[Entry], script: &Script) -> Result<Optio
         → IfOk result (IsAnswer (setting_with script.now shelf) journal.now) }
 {
     let tables = tables_of(alloc, script, journal)?;
-    let mut standing = Standing::nothing(alloc);
-    let mut unders = BTreeMap::new(alloc);
-    let mut views = BTreeMap::new(alloc);
+    let standing = Standing::nothing(alloc);
+    let unders = BTreeMap::new(alloc);
+    let views = BTreeMap::new(alloc);
+    let mut followed = Followed {
+        standing,
+        unders,
+        views,
+    };
     for place in 0..journal.len() {
         let entry = entry_at(journal, place);
-        let refused = entry_refusal(
-            alloc,
-            script,
-            journal,
-            &standing,
-            &tables,
-            &mut unders,
-            &mut views,
-            entry,
-        )?;
+        let refused = entry_refusal(alloc, script, journal, &tables, &mut followed, entry)?;
         if let Some(refusal) = refused {
             return Ok(Some(breach_of(refusal, entry)));
         }
-        stand(&mut standing, entry, place)?;
+        stand(&mut followed.standing, entry, place)?;
     }
     Ok(None)
 }

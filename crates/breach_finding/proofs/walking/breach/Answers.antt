@@ -31,7 +31,7 @@ pub returns-in-Some : goal.returns-in-Some
 returns-in-Some c shelf lawful kept bytes =
     found_is (setting_with c.args.script.now shelf) c.args.journal.now c.in-Some.refusal c.entry_at-entry.result.now.seq c.breach_of.result c.breach_of.ensures.rule c.breach_of.ensures.entry c.breach_of.ensures.found c.breach_of.ensures.allowed
     (refused_here c.args.script.now shelf lawful c.args.script.now.rules.tick.ms c.args.journal.now kept bytes c.in_ok-tables.tables (c.in_ok-tables.ensures lawful)
-    c.loop-place.place c.entry_at-entry.result.now c.entry_at-entry.ensures c.loop-place.standing c.loop-place.unders c.entry_refusal.new.unders c.loop-place.views c.entry_refusal.new.views (c.loop-place.invariant.1 shelf lawful kept bytes) c.in_ok-refused.refused
+    c.loop-place.place c.entry_at-entry.result.now c.entry_at-entry.ensures c.loop-place.followed c.entry_refusal.new.followed (c.loop-place.invariant.1 shelf lawful kept bytes) c.in_ok-refused.refused
     (c.in_ok-refused.ensures.told
     (kept.kinds (take c.loop-place.place c.args.journal.now) (drop (suc c.loop-place.place) c.args.journal.now) c.entry_at-entry.result.now (parts_at c.args.journal.now c.loop-place.place c.entry_at-entry.result.now c.entry_at-entry.ensures)))
     c.in-Some.refusal c.in-Some.is)
@@ -46,11 +46,11 @@ loop-place-preserved c = (
   c.in_ok-refused.ensures.waits,
   λ shelf lawful kept bytes.
       goes_on c.args.script.now shelf lawful c.args.script.now.rules.tick.ms c.args.journal.now kept bytes c.in_ok-tables.tables (c.in_ok-tables.ensures lawful)
-      c.loop-place.place c.entry_at-entry.result.now c.entry_at-entry.ensures c.loop-place.standing c.loop-place.unders c.entry_refusal.new.unders c.loop-place.views c.entry_refusal.new.views (c.loop-place.invariant.1 shelf lawful kept bytes) c.in_ok-refused.refused
+      c.loop-place.place c.entry_at-entry.result.now c.entry_at-entry.ensures c.loop-place.followed c.entry_refusal.new.followed (c.loop-place.invariant.1 shelf lawful kept bytes) c.in_ok-refused.refused
       (c.in_ok-refused.ensures.told
       (kept.kinds (take c.loop-place.place c.args.journal.now) (drop (suc c.loop-place.place) c.args.journal.now) c.entry_at-entry.result.now (parts_at c.args.journal.now c.loop-place.place c.entry_at-entry.result.now c.entry_at-entry.ensures)))
       c.in_default.is c.stand.new.standing
-      (c.in_ok-stand.ensures c.args.journal.now (stands (take c.loop-place.place c.args.journal.now)) c.entry_at-entry.ensures (c.loop-place.invariant.1 shelf lawful kept bytes).held),
+      (c.in_ok-stand.ensures c.args.journal.now (stands (take c.loop-place.place c.args.journal.now)) c.entry_at-entry.ensures),
 )
 
 pub entry_refusal-requires-clause-waits : goal.entry_refusal-requires-clause-waits

@@ -12,6 +12,6 @@ use Rattle.breach_finding.proofs.walking.breach.Given as goal
 -- stands on a shelf
 abbrev pub invariant-loop-place : goal.invariant-loop-place
 invariant-loop-place l =
-    ((seat : ℕ) → IsWaiting (get nat_cmp l.unders seat))
+    ((seat : ℕ) → IsWaiting (get nat_cmp l.followed.unders seat))
     × ((shelf : ℕ → FromShelf) → IsLawfulScript l.script → IsJournal l.script.rules.tick.ms l.journal → IsOfBytes l.journal
-    → IsWalked (setting_with l.script shelf) l.journal (take l.place l.journal) l.standing l.unders l.views)
+    → IsWalked (setting_with l.script shelf) l.journal (take l.place l.journal) l.followed.standing l.followed.unders l.followed.views)
