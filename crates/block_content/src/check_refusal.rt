@@ -1,3 +1,5 @@
+//! Why a check finds that a block is not to be shipped, in the order in which it looks.
+
 ghost use Rattle.std.specs.Prelude.{◌≡◌};
 ghost use Rattle.block_content.specs.declared.check_refusal.CheckRefusal.TheVariants.{NoMemory as WithoutMemory};
 

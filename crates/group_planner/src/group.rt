@@ -10,7 +10,7 @@ ghost use Rattle.group_planner.specs.Cuts.{IsCut, CutsFurther, has_lesser_key};
 
 use crate::MetaList;
 use crate::keyed::{Keyed, metas_in_order, sort_by_key, with_keys};
-use base::{List, NoMemory};
+use base::{List, NoMemory, TryCopy};
 use block_meta::Meta;
 use label_sets::{LabelSet, TextList};
 use std::alloc::Global;
@@ -22,6 +22,16 @@ pub struct Group {
     pub resolution: i64,
     pub labels: LabelSet,
     pub members: MetaList,
+}
+
+impl TryCopy for Group {
+    fn copy(&self) -> Result<Self, NoMemory> {
+        Ok(Group {
+            resolution: self.resolution,
+            labels: self.labels.copy()?,
+            members: self.members.copy()?,
+        })
+    }
 }
 
 /// Groups of blocks.

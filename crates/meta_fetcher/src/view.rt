@@ -1,5 +1,6 @@
 ghost use Rattle.std.specs.List.Sorted.{IsNonDecreasingBy};
 
+use base::{NoMemory, TryCopy};
 use moment_core::Moment;
 use sync_filters::FoundList;
 
@@ -18,4 +19,16 @@ pub struct View {
     pub covered: FoundList,
     pub ghost kept_rise: { IsNonDecreasingBy (λ block. block.ulid) kept },
     pub ghost covered_rise: { IsNonDecreasingBy (λ block. block.ulid) covered },
+}
+
+impl TryCopy for View {
+    fn copy(&self) -> Result<Self, NoMemory> {
+        Ok(View {
+            first: self.first,
+            begin: self.begin,
+            end: self.end,
+            kept: self.kept.copy()?,
+            covered: self.covered.copy()?,
+        })
+    }
 }

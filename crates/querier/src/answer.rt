@@ -2,7 +2,7 @@ ghost use Rattle.std.specs.Prelude.{◌≡◌, []};
 ghost use Rattle.querier.specs.Gathered.{IsComparedWith};
 
 use crate::repeats::are_same;
-use base::List;
+use base::{List, NoMemory, TryCopy};
 use block_meta::HasSources;
 use label_sets::SeriesList;
 use std::alloc::Global;
@@ -13,6 +13,15 @@ use ulid_core::{Ulid, UlidList};
 pub struct Answer {
     pub series: SeriesList,
     pub sources: UlidList,
+}
+
+impl TryCopy for Answer {
+    fn copy(&self) -> Result<Self, NoMemory> {
+        Ok(Answer {
+            series: self.series.copy()?,
+            sources: self.sources.copy()?,
+        })
+    }
 }
 
 impl Answer {

@@ -1,3 +1,5 @@
+//! What a line of a phase asks a worker to do, in the words of a script.
+
 use base::{NoMemory, TryCopy};
 use ulid_core::Ulid;
 

@@ -1,8 +1,7 @@
 //! Uploads, syncs, cleanings, compactions and gateways' calls over a world or by replies that are written out, operations on a
-//! world, what a bucket in memory opens, plans of blocks, filters of a view, and what a query asks and gathers. Each line of
-//! standard input is one question, in the notation that its head explains; one that begins with `= ` is a heading, and one that
-//! gives bytes a name prints nothing. The long list of plans and the objects of blocks were made by another program or come from a
-//! Prometheus server (2.42); the rest was worked out by hand.
+//! world, what a bucket in memory opens, plans of blocks, filters of a view, and what a query asks and gathers. What is to be
+//! printed was worked out by hand, made by another program, or comes from a Prometheus server (2.42).
+
 #![tactic(auto)]
 
 mod calls;
@@ -29,6 +28,8 @@ use crate::setting::print_opened;
 use crate::streams::{print_shelf, print_sink, print_site, print_source};
 use std::io;
 
+/// Each line of standard input is one question, in the notation that its head explains. One that begins with `= ` is a heading, and
+/// one that gives bytes a name prints nothing. The long list of plans was made by another program, the objects of blocks by a server.
 fn main(rt: HostRuntime) -> io::Result<()> {
     let mut objects = Vec::new(rt.alloc());
     for row in rt.lines(rt.alloc()) {

@@ -1,7 +1,7 @@
-//! Checks blocks of real folders as an uploader does, builds blocks and merges them, and prints the verdicts, what is shipped, what
-//! was built, and the chunks of what was merged. A line of standard input is a call; most name a folder below this one and a block
-//! in it. `merge` has blocks in the notation of `merging::given`, and `real` names a server's block in the folder `server`. Other
-//! lines are headings. What is to be printed comes from Prometheus' own reader, or was worked out by other means.
+//! Checks blocks of real folders as an uploader does, builds blocks and merges them, and prints the verdicts, what is shipped,
+//! what was built, and the chunks of what was merged. What is to be printed comes from Prometheus' own reader, or was worked out
+//! by other means.
+
 #![tactic(auto)]
 
 mod built;
@@ -22,6 +22,8 @@ use crate::says::{cut, put, say};
 use crate::verdicts::{print_content, print_verdict};
 use std::io;
 
+/// A line of standard input is a call; most name a folder below this one and a block in it. `merge` has blocks in the notation of
+/// `merging::given`, and `real` names a server's block in the folder `server`. Other lines are headings.
 fn main(rt: HostRuntime) -> io::Result<()> {
     for line in rt.lines(rt.alloc()) {
         let line = line?;

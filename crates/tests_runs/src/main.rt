@@ -1,8 +1,7 @@
-//! Calls on buckets and shelves in real folders and whole runs over them, whole runs of the program over a bucket in memory, of which
-//! calls may fail and which may lie, and passes and workers that act on one world from threads of their own. A line of standard
-//! input is one such call behind the word `folders`, one such run, in the notation that is explained above the first of them, or a
-//! case of threads; one that begins with `= ` is a heading. What is to be printed was worked out apart from this program, by the
-//! description of the formats and of the activities.
+//! Calls on buckets and shelves in real folders, whole runs over them and over a bucket in memory of which calls may fail and
+//! which may lie, and passes and workers that act on one world from threads of their own. What is to be printed was worked out
+//! apart from this program, by the description of the formats and of the activities.
+
 #![tactic(auto)]
 
 mod entries;
@@ -28,6 +27,8 @@ use std::io;
 use std::sync::Wait;
 use std::thread::Threads;
 
+/// A line of standard input is a call on a folder behind the word `folders`, a run, in the notation that is explained above the first of
+/// them, or a case of threads. One that begins with `= ` is a heading.
 fn main(rt: HostRuntime) -> io::Result<()> {
     let mut site = HostSite::new(rt.clone()?);
     let printed = print_all(&rt, &rt, &mut site);

@@ -1,9 +1,5 @@
-//! Memory for threads, as the C library keeps it.
-//!
-//! What a thread takes comes from an area of its own. Such an area grows by a page or two at a time, each time by a call to the system,
-//! for which threads wait on each other; and what is freed at its end goes back to the system, to be asked for anew. A large block that
-//! is taken, left untouched and given back at once changes both: the area has grown by as much in one call, and what is freed mostly
-//! stays with the program from then on. Where a block can't be had, all is as it was.
+//! Memory for threads, as the C library keeps it: where room was made once, threads seldom ask the system for more, for which
+//! they would wait on each other. Where a block can't be had, all is as it was.
 
 use phase_runner::Gate;
 use std::alloc::Global;
@@ -43,6 +39,10 @@ impl Gate for WithRoom {
 }
 
 /// Takes a block of so many bytes, if it can be had, and gives it back untouched.
+///
+/// What a thread takes comes from an area of its own. It grows by a page or two at a time, each time by a call to the system;
+/// and what is freed at its end goes back to the system. A large block that is taken and given back at once changes both: the
+/// area has grown by as much in one call, and what is freed mostly stays with the program from then on.
 fn take_and_give_back(alloc: Global, bytes: usize) {
     drop(Vec::<u8>::with_capacity(alloc, bytes));
 }

@@ -1,3 +1,5 @@
+//! The operations of which a run is made, one at a time: on an object of the bucket, or on the clock.
+
 use base::{NoMemory, TryCopy};
 use block_keys::Key;
 use label_sets::Text;
