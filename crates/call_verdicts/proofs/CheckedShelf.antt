@@ -9,6 +9,7 @@ use Rattle.call_verdicts.specs.CheckVerdicts.{refused_for}
 use Rattle.call_verdicts.specs.Checks.{cause_number, files_held, files_in, files_of, HasFailed}
 use Rattle.call_verdicts.specs.Kept.{IsShelfBack, IsShelfOf, told_of}
 use Rattle.call_verdicts.specs.Verdicts.{IsChecked}
+use Rattle.call_verdicts.specs.declared.ended.Ended.{Ended}
 use Rattle.call_verdicts.specs.declared.verdict.Verdict.{Verdict}
 use Rattle.call_verdicts.proofs.Checks.{absent_caused, checked_told}
 use Rattle.call_verdicts.proofs.FilesTold.{files_back}
@@ -57,3 +58,7 @@ shelf_kept tells word old new one other same is = record {
 
 pub named_kept : {F : Type 0} (tells : F → ShelfTold) (word : Option (List ℕ)) (one other : Option F) → option_map (files_held tells) one ≡ option_map (files_held tells) other → is_some other ≡ is_some word → is_some one ≡ is_some word
 named_kept tells word one other same named = same_there tells one other same ∙ named
+
+-- by the verdict and the shelf with which a call ended
+pub ended_as : {B F : Type 0} (P : Option F → Verdict → Type 0) (ended : Ended B F) (shelf : Option F) (v : Verdict) → ended.shelf ≡ shelf → ended.verdict ≡ v → P shelf v → P ended.shelf ended.verdict
+ended_as P ended shelf v one two holds = subst (λ s. P s ended.verdict) (sym one) (subst (P shelf) (sym two) holds)

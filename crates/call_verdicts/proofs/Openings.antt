@@ -14,7 +14,7 @@ use Rattle.call_verdicts.specs.Kept.{IsHandedOut, IsShelfBack, IsShelfOf, IsUnto
 use Rattle.call_verdicts.specs.Openings.{IsShelfOpen, IsUnopened}
 use Rattle.call_verdicts.specs.Undone.{IsUndone}
 use Rattle.call_verdicts.specs.Verdicts.{IfShort}
-use Rattle.call_verdicts.specs.declared.conclusion.Conclusion.{Conclusion}
+use Rattle.call_verdicts.specs.declared.ended.Ended.{Ended}
 use Rattle.call_verdicts.specs.declared.verdict.Verdict.{Verdict}
 use Rattle.call_verdicts.specs.declared.verdict.Verdict.TheVariants.{WordsRefused, SourceFault, ScriptRefused, SiteFault, NotEmpty, Full, Report, Checked, NoMemory}
 use Rattle.call_verdicts.proofs.ShelfAsked.{just_opened}
@@ -111,7 +111,7 @@ pub untouched_named : {B : Type 0} (tells : B → BucketTold) (told : List ℕ �
 untouched_named tells told word other journal store same is = subst (λ (w : Option (List ℕ)). IfSome (told_of told w) (λ c. IsUntouched tells c journal store)) same is
 
 -- what is told before it is told of the bucket itself, and a wider cause of a site fault
-pub unopened_told : {B : Type 0} (tells : B → BucketTold) (script : Script) (before told : Option Contents) (failed other : Type 0) (ended : Conclusion B) → IfSome before (λ c. told ≡ Some c) → (failed → other) → IsUnopened tells script told failed ended → IsUnopened tells script before other ended
+pub unopened_told : {B F : Type 0} (tells : B → BucketTold) (script : Script) (before told : Option Contents) (failed other : Type 0) (ended : Ended B F) → IfSome before (λ c. told ≡ Some c) → (failed → other) → IsUnopened tells script told failed ended → IsUnopened tells script before other ended
 unopened_told tells script before told failed other ended same weaker is = record {
   cause = run_told IsUndone (setting_of script) before told failed other ended.journal ended.verdict same weaker is.cause;
   first = is.first;

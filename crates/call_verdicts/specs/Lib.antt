@@ -1,6 +1,7 @@
 pub mod Asked
 pub mod Checks
 pub mod CheckVerdicts
+pub mod Ends
 pub mod Kept
 pub mod Noted
 pub mod Openings

@@ -11,8 +11,7 @@ use Rattle.call_verdicts.specs.Kept.{HoldsNothing, IsHandedBack, IsHandedOut, Is
 use Rattle.call_verdicts.specs.Outside.{Outside, SiteCall, names}
 use Rattle.call_verdicts.specs.Undone.{IsUndone}
 use Rattle.call_verdicts.specs.Verdicts.{Around, BehindOpening, IfShort, IsEarly, IsFirstOf, IsRun, IsScriptRead, IsWorked, SiteFailed, around_call, held_in}
-use Rattle.call_verdicts.specs.declared.conclusion.Conclusion.{Conclusion}
-use Rattle.call_verdicts.specs.declared.conclusion.Ended.{Ended}
+use Rattle.call_verdicts.specs.declared.ended.Ended.{Ended}
 use Rattle.call_verdicts.specs.declared.opening.Ready.{Ready}
 use Rattle.call_verdicts.specs.declared.verdict.Verdict.TheVariants as verdict
 
@@ -56,7 +55,7 @@ pub record IsReady {B F : Type 0} (o : Outside B F) (bucket : List ℕ) (word : 
 
 -- No world was opened over the bucket that was handed out, if one was. It held this before, where that is told, and nothing was done
 -- to it: the journal over it is empty, and it was asked for the page that opens a world at most. A site fault has this cause.
-pub record IsUnopened {B : Type 0} (tells : B → BucketTold) (script : Script) (before : Option Contents) (failed : Type 0) (ended : Conclusion B) : Type 0 where
+pub record IsUnopened {B F : Type 0} (tells : B → BucketTold) (script : Script) (before : Option Contents) (failed : Type 0) (ended : Ended B F) : Type 0 where
   pub cause : IsRun IsUndone (setting_of script) before failed ended.journal ended.verdict
   pub first : IsFirstOf (held_in tells ended.store) ended.verdict
   pub early : IsEarly ended.verdict
@@ -69,10 +68,10 @@ pub record IsUnopened {B : Type 0} (tells : B → BucketTold) (script : Script) 
 
 -- The call ended as it opened what the words of a run name. Its shelf, if it was opened, has not failed and was asked for nothing.
 pub record HasNotOpened {B F : Type 0} (s : SiteCall B F) (bucket : List ℕ) (word : Option (List ℕ)) (script : Script) (ended : Ended B F) : Type 0 where
-  pub unopened : IsUnopened s.store script (next_bucket s.before bucket) (SiteFailed s.before s.after s.store ended.conclusion.store) ended.conclusion
-  pub site : IfShort ended.conclusion.verdict (s.after.faults ≡ s.before.faults)
-  pub handed : IsHandedOut s.before.buckets s.after.buckets ended.conclusion.store
-  pub named : BehindOpening ended.conclusion.verdict (IsOpened (Some bucket) word ended.conclusion.store ended.shelf)
+  pub unopened : IsUnopened s.store script (next_bucket s.before bucket) (SiteFailed s.before s.after s.store ended.store) ended
+  pub site : IfShort ended.verdict (s.after.faults ≡ s.before.faults)
+  pub handed : IsHandedOut s.before.buckets s.after.buckets ended.store
+  pub named : BehindOpening ended.verdict (IsOpened (Some bucket) word ended.store ended.shelf)
   pub of : IsShelfOf s.files word s.before s.after ended.shelf
   pub unfailed : IfSome ended.shelf (λ files. (s.files files).faults ≡ 0)
   pub unasked : IfSome ended.shelf (WasAsked (names_asked s.files) [])
@@ -80,18 +79,18 @@ pub record HasNotOpened {B F : Type 0} (s : SiteCall B F) (bucket : List ℕ) (w
 
 -- what is told of the world around a call that ended before its run
 abbrev pub around_ended : {B F : Type 0} → Outside B F → List ℕ → Option (List ℕ) → Ended B F → Around
-around_ended o bucket word ended = around_call IsUndone o (names (Some bucket) word None) ended.conclusion.store ended.shelf ended.conclusion.journal
+around_ended o bucket word ended = around_call IsUndone o (names (Some bucket) word None) ended.store ended.shelf ended.journal
 
 -- The call ended before its run, by its source or its script or as it opened what the words name: this is why, and what it leaves.
 pub record HasEnded {B F : Type 0} (o : Outside B F) (bucket : List ℕ) (word : Option (List ℕ)) (ended : Ended B F) : Type 0 where
-  pub cause : IsWorked (around_ended o bucket word ended) ended.conclusion.verdict
-  pub short : IfShort ended.conclusion.verdict (around_ended o bucket word ended).unfailed
-  pub handed : IsHandedOut o.site.before.buckets o.site.after.buckets ended.conclusion.store
-  pub kept : is_some ended.conclusion.journal ≡ is_some ended.conclusion.store
-  pub back : IsHandedBack o.site.store ended.conclusion.journal ended.conclusion.store
-  pub untouched : IfSome (next_bucket o.site.before bucket) (λ c. IsUntouched o.site.store c ended.conclusion.journal ended.conclusion.store)
-  pub asked : ended.conclusion.verdict ≢ verdict.NoMemory → IsBucketAsked o.site.store ended.conclusion.verdict ended.conclusion.journal ended.conclusion.store
-  pub opened : IfSome ended.conclusion.store (WasOnlyOpened o.site.store)
+  pub cause : IsWorked (around_ended o bucket word ended) ended.verdict
+  pub short : IfShort ended.verdict (around_ended o bucket word ended).unfailed
+  pub handed : IsHandedOut o.site.before.buckets o.site.after.buckets ended.store
+  pub kept : is_some ended.journal ≡ is_some ended.store
+  pub back : IsHandedBack o.site.store ended.journal ended.store
+  pub untouched : IfSome (next_bucket o.site.before bucket) (λ c. IsUntouched o.site.store c ended.journal ended.store)
+  pub asked : ended.verdict ≢ verdict.NoMemory → IsBucketAsked o.site.store ended.verdict ended.journal ended.store
+  pub opened : IfSome ended.store (WasOnlyOpened o.site.store)
   pub of : IsShelfOf o.site.files word o.site.before o.site.after ended.shelf
   pub read : IfSome ended.shelf (WasReadFor o.site.files o.source.left)
   pub note : ended.note ≡ None

@@ -9,7 +9,7 @@ ghost use Rattle.call_verdicts.specs.Verdicts.{BehindOpening, IfShort, IsChecked
 ghost use Rattle.call_verdicts.specs.Words.{named_by};
 
 use crate::Verdict;
-use crate::conclusion::{Conclusion, Ended};
+use crate::ended::Ended;
 use crate::opening::{open_shelf, refusal_verdict};
 use block_content::{CheckRefusal, Checked};
 use block_keys::Key;
@@ -30,36 +30,28 @@ pub fn check_block<S: Site>(
     ensures cause { IsChecked
         (files_of S.Files.told (S.told site.old) (named_by shelf.now) result.shelf) block
         (ShelfFailed (S.told site.old) (S.told site.new) S.Files.told result.shelf)
-        result.conclusion.verdict }
-    ensures opened { BehindOpening result.conclusion.verdict
+        result.verdict }
+    ensures opened { BehindOpening result.verdict
         (is_some result.shelf ≡ is_some (named_by shelf.now)) }
     ensures bucket { AsksNoBucket (S.told site.old) (S.told site.new) }
     ensures shelf { IsShelfOf S.Files.told (named_by shelf.now) (S.told site.old)
         (S.told site.new) result.shelf }
-    ensures short { IfShort result.conclusion.verdict
+    ensures short { IfShort result.verdict
         (((S.told site.new).faults ≡ (S.told site.old).faults)
         × IfSome result.shelf (λ files. (S.Files.told files).faults ≡ 0)) }
     ensures asked { IfSome result.shelf (WasChecked S.Files.told
         (files_of S.Files.told (S.told site.old) (named_by shelf.now) result.shelf) block
-        (IsBroken result.conclusion.verdict)) }
-    ensures store { result.conclusion.store ≡ None }
-    ensures journal { result.conclusion.journal ≡ None }
+        (IsBroken result.verdict)) }
+    ensures store { result.store ≡ None }
+    ensures journal { result.journal ≡ None }
     ensures note { result.note ≡ None }
 {
     match open_shelf(site, shelf) {
         Ok(files) => {
             let (verdict, files) = check_opened(alloc, block, files);
-            Ended {
-                conclusion: Conclusion::without_bucket(verdict),
-                shelf: files,
-                note: None,
-            }
+            Ended::without_bucket(verdict, files)
         }
-        Err(refusal) => Ended {
-            conclusion: Conclusion::without_bucket(refusal_verdict(refusal)),
-            shelf: None,
-            note: None,
-        },
+        Err(refusal) => Ended::without_bucket(refusal_verdict(refusal), None),
     }
 }
 

@@ -3,7 +3,7 @@
 
 mod check;
 mod check_way;
-mod conclusion;
+mod ended;
 mod input;
 mod input_refusal;
 mod opening;
@@ -18,7 +18,7 @@ mod words;
 
 pub use check::check_block;
 pub use check_way::{CheckWay, InTurn, Stage};
-pub use conclusion::{Conclusion, Ended};
+pub use ended::Ended;
 pub use input::read_all;
 pub use input_refusal::InputRefusal;
 pub use opening::{Ready, read_and_open};

@@ -1,6 +1,6 @@
 //! A run is made ready: its script is read, its bucket and its shelf are opened, and a world over the bucket.
 
-ghost use Rattle.std.specs.Prelude.{◌≡◌, ◌≢◌, ◌<◌, ◌≤◌, ℕ, List, Some, IfOk, IfErr, IfSome, IsSome, IsSomeAnd, MatchResult};
+ghost use Rattle.std.specs.Prelude.{◌≡◌, ◌≢◌, ◌<◌, ◌≤◌, ℕ, List, Some, None, IfOk, IfErr, IfSome, IsSome, IsSomeAnd, MatchResult};
 ghost use Rattle.bucket_core.specs.Causes.{Rose};
 ghost use Rattle.script_core.specs.Lawful.{IsLawfulScript};
 ghost use Rattle.script_core.specs.declared.script.Script.{Script};
@@ -10,7 +10,7 @@ ghost use Rattle.call_verdicts.specs.Outside.{outside, site_call};
 ghost use Rattle.call_verdicts.specs.Verdicts.{IfShort, IsEarly, IsScriptRead, IsUnread};
 ghost use Rattle.call_verdicts.specs.Words.{named_by};
 
-use crate::conclusion::{Conclusion, Ended};
+use crate::ended::Ended;
 use crate::input::read_all;
 use crate::{InputRefusal, Verdict};
 use bucket_core::{Bucket, Site, SiteRefusal, Source};
@@ -55,7 +55,7 @@ pub fn read_and_open<S: Site, R: Source>(
                 Err(ended)
             }
         },
-        Err(verdict) => Err(Ended::early(Conclusion::without_bucket(verdict), None)),
+        Err(verdict) => Err(Ended::without_bucket(verdict, None)),
     }
 }
 
@@ -103,38 +103,36 @@ fn open_site<S: Site>(
 {
     let store = match site.open_bucket(bucket) {
         Ok(store) => store,
-        Err(refusal) => {
-            let conclusion = Conclusion::without_bucket(refusal_verdict(refusal));
-            return Err(Ended::early(conclusion, None));
-        }
+        Err(refusal) => return Err(Ended::without_bucket(refusal_verdict(refusal), None)),
     };
     match open_shelf(site, shelf) {
-        Ok(shelf) => match open_world(alloc, script, store) {
-            Ok(world) => Ok((world, shelf)),
-            Err(conclusion) => Err(Ended::early(conclusion, shelf)),
-        },
-        Err(refusal) => Err(Ended::early(without_shelf(alloc, refusal, store), None)),
+        Ok(shelf) => open_world(alloc, script, store, shelf),
+        Err(refusal) => Err(without_shelf(alloc, refusal, store)),
     }
 }
 
-/// Opens a world over the bucket; or ends the call.
-fn open_world<B: Bucket>(
+/// Opens a world over the bucket; or ends the call. The shelf of its word comes with either.
+fn open_world<B: Bucket, F>(
     alloc: Global,
     script: &Script,
     bucket: B,
-) -> Result<World<B>, Conclusion<B>>
+    shelf: Option<F>,
+) -> Result<(World<B>, Option<F>), Ended<B, F>>
     requires lawful { IsLawfulScript script.now }
     requires unused { IsUnused (B.told bucket) }
-    ensures opened { IfOk result (IsNewWorld B.told script.now) }
+    ensures opened { IfOk result (λ ready. IsNewWorld B.told script.now ready.0) }
     ensures empty { IfOk result (λ _. IfSome (B.told bucket).contents HoldsNothing) }
     ensures ended { IfErr result (λ ended. IsUnopened B.told script.now (B.told bucket).contents
         (IsSomeAnd ended.store (λ store. 0 < (B.told store).faults)) ended) }
     ensures store { IfErr result (λ ended. IsSome ended.store) }
+    ensures shelf { MatchResult result (λ ready. ready.1 ≡ shelf)
+        (λ ended. (ended.shelf ≡ shelf) × (ended.note ≡ None)) }
 {
     match World::open(alloc, bucket, script.rules.tick) {
-        Ok(world) => Ok(world),
+        Ok(world) => Ok((world, shelf)),
         Err((refusal, store)) => {
-            Err(Conclusion::with_bucket(unopened_verdict(refusal), Journal::empty(alloc), store))
+            let journal = Journal::empty(alloc);
+            Err(Ended::with_bucket(unopened_verdict(refusal), journal, store, shelf))
         }
     }
 }
@@ -191,13 +189,20 @@ pub fn refusal_verdict(refusal: SiteRefusal) -> Verdict
 }
 
 /// What a call comes to whose shelf is not opened. Nothing is done to the bucket.
-fn without_shelf<B: Bucket>(alloc: Global, refusal: SiteRefusal, bucket: B) -> Conclusion<B>
+fn without_shelf<B: Bucket, F>(alloc: Global, refusal: SiteRefusal, bucket: B) -> Ended<B, F>
     requires { IsUnused (B.told bucket) }
     ensures failed { refusal ≡ SiteRefusal.Failed → result.verdict ≡ Verdict.SiteFault }
     ensures none { refusal ≡ SiteRefusal.NoMemory → result.verdict ≡ Verdict.NoMemory }
     ensures ended { (script : Script) → IsUnopened B.told script (B.told bucket).contents
         (refusal ≡ SiteRefusal.Failed) result }
     ensures store { result.store ≡ Some bucket }
+    ensures shelf { result.shelf ≡ None }
+    ensures note { result.note ≡ None }
 {
-    Conclusion::with_bucket(refusal_verdict(refusal), Journal::empty(alloc), bucket)
+    Ended::with_bucket(
+        refusal_verdict(refusal),
+        Journal::empty(alloc),
+        bucket,
+        None,
+    )
 }

@@ -20,7 +20,8 @@ use Rattle.call_verdicts.specs.Noted.{IsNoted}
 use Rattle.call_verdicts.specs.Outside.{Outside}
 use Rattle.call_verdicts.specs.ShelfReads.{IsBrokenOff, IsOfShelf}
 use Rattle.call_verdicts.specs.Verdicts.{BehindReading, IfShort, IsRun, IsScriptRead}
-use Rattle.call_verdicts.specs.declared.conclusion.Ended.{Ended}
+use Rattle.call_verdicts.specs.Ends.{IsEndOfRun}
+use Rattle.call_verdicts.specs.declared.ended.Ended.{Ended}
 use Rattle.call_verdicts.specs.declared.verdict.Verdict.{Verdict}
 use Rattle.call_verdicts.specs.declared.verdict.Verdict.TheVariants.{NoMemory}
 use Rattle.call_verdicts.proofs.BucketAsked.{ended_asked}
@@ -31,7 +32,7 @@ use Rattle.call_verdicts.proofs.Noted.{noted_as}
 use Rattle.call_verdicts.proofs.ShelfReads.{read_for}
 use Rattle.call_verdicts.proofs.Unfailed.{not_short, short_map, short_of, unfailed_ended}
 use Rattle.call_verdicts.proofs.Verdicts.{before_reading, behind_reading, if_nothing, is_named, run_weaker, worked_run}
-use Rattle.replay_cli.specs.Calls.{HasOpened, IsEndOfRun, IsPrepared, Leaves, around_run, run_names}
+use Rattle.replay_cli.specs.Calls.{HasOpened, IsPrepared, Leaves, around_run, run_names}
 use Rattle.replay_cli.specs.Ways.{HasRun, MayRun, Way, beside, in_line, is_done_by, tells_by}
 use Rattle.replay_cli.specs.declared.preparing.Prepared.{Prepared}
 use Rattle.replay_cli.proofs.NoneInPhases.{none_in_phases}
@@ -74,9 +75,9 @@ module _ {B F : Type 0} (o : Outside B F) (bucket : List ℕ) (word : Option (Li
       → (v ≢ NoMemory → (before : List Call) → IsAllAsked o.site.store before old → IsAllAsked o.site.store before new)
       → IsNoted (tells_by way) o.site.store v (Some new.journal) (Some new.bucket) note → IsEndOfRun o.site.store v new note shelf ended → Leaves way o (run_names bucket word) ended
   leaves way setting old new note shelf v ended lawful is fresh was behind run calm unfailed all noted end =
-      let verdict = ended.conclusion.verdict in
-      let journal = ended.conclusion.journal in
-      let store = ended.conclusion.store in
+      let verdict = ended.verdict in
+      let journal = ended.journal in
+      let store = ended.store in
       record {
         cause = (
           inl (is_named bucket (Some bucket) refl, refl, worked_run (around_run way o (run_names bucket word) ended) setting new.journal v verdict is.read lawful (ap is_some end.store, is.named) is.empty end.journal end.verdict behind run),

@@ -12,7 +12,7 @@ use base::NoMemory;
 use bucket_core::{Bucket, FailList, MemoryBucket};
 use call_verdicts::report_lines::{Tally, put_breach_of};
 use call_verdicts::script_running::Broken;
-use call_verdicts::{Conclusion, Ended, Verdict};
+use call_verdicts::{Ended, Verdict};
 use generated_day::generated_script;
 use line_running::do_in_line;
 use run_notes::{Finished, RunNote};
@@ -25,20 +25,18 @@ pub(crate) fn run_day<B: Bucket, F>(
     alloc: Global,
     number: u64,
 ) -> (Ended<B, F>, Option<RunNote<MemoryBucket>>)
-    ensures came { IsSomeAnd result.0.conclusion.journal
-        (λ entries. IsDayRun number entries result.0.conclusion.verdict) }
-    ensures store { result.0.conclusion.store ≡ None }
+    ensures came { IsSomeAnd result.0.journal
+        (λ entries. IsDayRun number entries result.0.verdict) }
+    ensures store { result.0.store ≡ None }
     ensures shelf { result.0.shelf ≡ None }
     ensures note { result.0.note ≡ None }
-    ensures noted { IsDayNoted result.0.conclusion.verdict result.0.conclusion.journal result.1 }
+    ensures noted { IsDayNoted result.0.verdict result.0.journal result.1 }
 {
     let (verdict, journal, note) = run_alone(alloc, number);
     let ended = Ended {
-        conclusion: Conclusion {
-            verdict,
-            journal: Some(journal),
-            store: None,
-        },
+        verdict,
+        journal: Some(journal),
+        store: None,
         shelf: None,
         note: None,
     };

@@ -1,14 +1,12 @@
-//! A run is prepared, in whichever way its tasks are to be done, and ended.
+//! A run is prepared, in whichever way its tasks are to be done.
 
 ghost use Rattle.call_verdicts.specs.Outside.{outside, site_call};
 ghost use Rattle.call_verdicts.specs.Words.{named_by};
-ghost use Rattle.replay_cli.specs.Calls.{IsEndOfRun, Prepares};
+ghost use Rattle.replay_cli.specs.Calls.{Prepares};
 
 use bucket_core::{Bucket, Site, Source};
 use call_verdicts::script_running::ShelfBlockList;
-use call_verdicts::{
-    CheckWay, Conclusion, Ended, Named, Ready, Verdict, read_and_open, read_blocks,
-};
+use call_verdicts::{CheckWay, Ended, Named, Ready, read_and_open, read_blocks};
 use run_notes::Finished;
 use script_core::Script;
 use std::alloc::Global;
@@ -55,26 +53,10 @@ pub(crate) fn prepare<S: Site, R: Source, W: CheckWay>(
                 }),
                 Err(verdict) => {
                     drop(script);
-                    Err(end_run(verdict, Finished::unbegun(world), shelf))
+                    Err(Ended::of_run(verdict, Finished::unbegun(world), shelf))
                 }
             }
         }
         Err(ended) => Err(ended),
-    }
-}
-
-/// What a call comes to whose run is finished, with the shelf of its word.
-pub(crate) fn end_run<B: Bucket, F>(
-    verdict: Verdict,
-    run: Finished<B>,
-    shelf: Option<F>,
-) -> Ended<B, F>
-    ensures { IsEndOfRun B.told verdict run.world run.note shelf result }
-{
-    let (conclusion, note) = Conclusion::of_run(verdict, run);
-    Ended {
-        conclusion,
-        shelf,
-        note,
     }
 }

@@ -9,10 +9,10 @@ ghost use Rattle.replay_cli.specs.Promises.{Serves, call_of};
 ghost use Rattle.replay_cli.specs.Ways.{beside};
 
 use crate::checking::Beside;
-use crate::preparing::{Prepared, end_run, prepare};
+use crate::preparing::{Prepared, prepare};
 use crate::runner::{Crew, run_with_threads};
 use bucket_core::{Sink, Site, Source};
-use call_verdicts::{Conclusion, Ended, Named, Run, Verdict, read_replay};
+use call_verdicts::{Ended, Named, Run, Verdict, read_replay};
 use phase_runner::Gate;
 use std::alloc::Global;
 use std::sync::Wait;
@@ -57,11 +57,7 @@ where
 {
     match read_replay(words) {
         Some(named) => read_and_run(crew, alloc, &named, site, script),
-        None => Ended {
-            conclusion: Conclusion::without_bucket(Verdict::WordsRefused),
-            shelf: None,
-            note: None,
-        },
+        None => Ended::without_bucket(Verdict::WordsRefused, None),
     }
 }
 
@@ -94,7 +90,7 @@ where
             let (verdict, run) = run_with_threads(crew, alloc, &script, read, world);
             drop(blocks);
             drop(script);
-            end_run(verdict, run, shelf)
+            Ended::of_run(verdict, run, shelf)
         }
         Err(ended) => ended,
     }

@@ -9,12 +9,11 @@ ghost use Rattle.replay_cli.specs.Promises.{ServesTool, call_of};
 ghost use Rattle.replay_cli.specs.Ways.{in_line};
 
 use crate::day::run_day;
-use crate::preparing::{Prepared, end_run, prepare};
+use crate::preparing::{Prepared, prepare};
 use crate::runner::run_in_line;
 use bucket_core::{Sink, Site, Source};
 use call_verdicts::{
-    Conclusion, Ended, InTurn, Named, Run, Verdict, check_block, read_check, read_generate,
-    read_serial,
+    Ended, InTurn, Named, Run, Verdict, check_block, read_check, read_generate, read_serial,
 };
 use std::alloc::Global;
 
@@ -62,11 +61,7 @@ fn come_to<S: Site, R: Source>(
     }
     match read_check(words) {
         Some(asked) => check_block(alloc, asked.shelf, asked.block, site),
-        None => Ended {
-            conclusion: Conclusion::without_bucket(Verdict::WordsRefused),
-            shelf: None,
-            note: None,
-        },
+        None => Ended::without_bucket(Verdict::WordsRefused, None),
     }
 }
 
@@ -94,7 +89,7 @@ fn read_and_run<S: Site, R: Source>(
             let (verdict, run) = run_in_line(alloc, &script, blocks.members(), world);
             drop(blocks);
             drop(script);
-            end_run(verdict, run, shelf)
+            Ended::of_run(verdict, run, shelf)
         }
         Err(ended) => ended,
     }

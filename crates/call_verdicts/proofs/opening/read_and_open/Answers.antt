@@ -1,5 +1,3 @@
-use Rattle.std.proofs.Common.{subst, sym}
-use Rattle.call_verdicts.specs.Openings.{HasEnded}
 use Rattle.call_verdicts.specs.Outside.{outside, site_call}
 use Rattle.call_verdicts.specs.Words.{named_by}
 use Rattle.call_verdicts.proofs.Unopened.{ended_site, ended_source}
@@ -20,8 +18,5 @@ returns-in-Err-open_site-clause-ended g c =
 
 pub returns-in-Err-clause-ended : goal.returns-in-Err-clause-ended
 returns-in-Err-clause-ended g c =
-    subst
-    (HasEnded (outside (g.R.Source.told c.args.script.now) (g.R.Source.told c.read_script.new.source) (site_call (g.S.Site.told c.args.site.now) (g.S.Site.told c.args.site.now) g.S.Store.Bucket.told g.S.Files.Shelf.told)) c.args.bucket.now (named_by c.args.shelf.now))
-    (sym c.early.ensures)
-    (ended_source (g.R.Source.told c.args.script.now) (g.R.Source.told c.read_script.new.source) (g.S.Site.told c.args.site.now) g.S.Store.Bucket.told g.S.Files.Shelf.told c.args.bucket.now (named_by c.args.shelf.now) c.in-Err.verdict c.without_bucket.result
-    c.without_bucket.ensures.verdict c.without_bucket.ensures.journal c.without_bucket.ensures.store c.in-Err.ensures.refused c.in-Err.ensures.only)
+    ended_source (g.R.Source.told c.args.script.now) (g.R.Source.told c.read_script.new.source) (g.S.Site.told c.args.site.now) g.S.Store.Bucket.told g.S.Files.Shelf.told c.args.bucket.now (named_by c.args.shelf.now) c.in-Err.verdict c.without_bucket.result
+    c.without_bucket.ensures.verdict c.without_bucket.ensures.journal c.without_bucket.ensures.store c.without_bucket.ensures.shelf c.without_bucket.ensures.note c.in-Err.ensures.refused c.in-Err.ensures.only

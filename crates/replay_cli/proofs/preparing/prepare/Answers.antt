@@ -53,13 +53,13 @@ returns-in-Err-read g c = λ way.
     let ready = c.in-Ok.ensures.ready in
     let opened = ready.opened in
     let after = c.read_blocks-read.result.1 in
-    unread o c.args.named.now.bucket.now word way script world c.unbegun.result.world c.unbegun.result.note before after c.in-Err-read.verdict c.end_run.result c.unbegun.ensures.world c.unbegun.ensures.note ready.lawful
+    unread o c.args.named.now.bucket.now word way script world c.unbegun.result.world c.unbegun.result.note before after c.in-Err-read.verdict c.of_run.result c.unbegun.ensures.world c.unbegun.ensures.note ready.lawful
     (is_open o c.args.named.now.bucket.now word script world before after ready.read ready.source opened.site opened.buckets opened.empty opened.new.unfailed
     opened.own.named opened.own.of c.read_blocks-read.ensures.same (c.read_blocks-read.ensures.asked opened.own.unasked))
     opened.new.journal opened.new.asked opened.own.unfailed
     (subst (λ r. IfErr r (IsBrokenOff (HasFailed o.site.files before after))) c.in-Err-read.is c.read_blocks-read.ensures.broken)
     (subst (λ r. MatchResult r (λ _. IfSome after (λ s. (o.site.files s).faults ≡ 0)) (λ v. IfShort v (IfSome after (λ s. (o.site.files s).faults ≡ 0)))) c.in-Err-read.is (c.read_blocks-read.ensures.calm opened.own.unfailed))
-    c.end_run.ensures
+    c.of_run.ensures
 
 pub returns-in-Err : goal.returns-in-Err
 returns-in-Err g c = λ way.
@@ -68,14 +68,14 @@ returns-in-Err g c = λ way.
     let around = around_run way o (run_names c.args.named.now.bucket.now (named_by c.args.named.now.shelf.now)) ended in
     let is = c.in-Err.ensures.ended in
     record {
-      cause = (inl (is_named c.args.named.now.bucket.now (Some c.args.named.now.bucket.now) refl, refl, worked_undone around (is_done_by way) ended.conclusion.verdict (none_done way) is.cause), is.short);
+      cause = (inl (is_named c.args.named.now.bucket.now (Some c.args.named.now.bucket.now) refl, refl, worked_undone around (is_done_by way) ended.verdict (none_done way) is.cause), is.short);
       handed = is.handed;
       kept = is.kept;
       back = is.back;
       untouched = is.untouched;
       closed = λ none. absurd (cc (none));
       asked_bucket = is.asked;
-      noted = undone_noted (tells_by way) o.site.store around ended.conclusion.verdict ended.conclusion.store ended.note is.note is.opened is.cause;
+      noted = undone_noted (tells_by way) o.site.store around ended.verdict ended.store ended.note is.note is.opened is.cause;
       shelf = is.of;
       asked = is.read;
     }

@@ -22,4 +22,4 @@ returns-in-None g c =
     let none : replay_word c.args.words.now ≡ None = sym c.read_replay.ensures.bucket ∙ ap (option_map (λ (named : Named). named.bucket.now)) c.in-None.is in
     refused beside (g.R.Source.told c.args.script.now) (g.S.Site.told c.args.site.now) g.S.Store.Bucket.told g.S.Files.Shelf.told _ _
     (same_names None (replay_word c.args.words.now) None (replay_shelf c.args.words.now) None None (sym none) (sym (c.read_replay.ensures.none c.in-None.is)) refl)
-    c.without_bucket.ensures.verdict c.without_bucket.ensures.journal c.without_bucket.ensures.store refl refl
+    c.without_bucket.ensures.verdict c.without_bucket.ensures.journal c.without_bucket.ensures.store c.without_bucket.ensures.shelf c.without_bucket.ensures.note

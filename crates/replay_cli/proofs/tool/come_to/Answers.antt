@@ -39,17 +39,17 @@ returns-in-Some-read_check g c =
         inr (inl (
           record { none = not_named None refl; journal = is.journal; unread = refl },
           is.cause,
-          behind_map ended.conclusion.verdict _ _ (λ named. (ap is_some is.store, named)) is.opened,
+          behind_map ended.verdict _ _ (λ named. (ap is_some is.store, named)) is.opened,
         )),
-        short_map ended.conclusion.verdict _ _ (λ short. (refl, short.0, unfailed_none store 0 _ _ is.journal, short.1)) is.short,
+        short_map ended.verdict _ _ (λ short. (refl, short.0, unfailed_none store 0 _ _ is.journal, short.1)) is.short,
       );
-      handed = handed_none before.buckets after.buckets ended.conclusion.store is.store is.bucket.handed;
+      handed = handed_none before.buckets after.buckets ended.store is.store is.bucket.handed;
       kept = ap is_some is.journal ∙ sym (ap is_some is.store);
-      back = back_none store ended.conclusion.journal ended.conclusion.store is.journal is.store;
+      back = back_none store ended.journal ended.store is.journal is.store;
       untouched = tt;
       closed = λ none. is.bucket;
-      asked_bucket = λ never. none_asked store ended.conclusion.verdict ended.conclusion.journal ended.conclusion.store is.journal;
-      noted = without_bucket met store ended.conclusion.verdict ended.conclusion.journal ended.conclusion.store ended.note is.note is.journal is.store (checked_tells _ _ _ ended.conclusion.verdict is.cause);
+      asked_bucket = λ never. none_asked store ended.verdict ended.journal ended.store is.journal;
+      noted = without_bucket met store ended.verdict ended.journal ended.store ended.note is.note is.journal is.store (checked_tells _ _ _ ended.verdict is.cause);
       shelf = is.shelf;
       asked = is.asked;
     })
@@ -60,4 +60,4 @@ returns-in-None g c =
     let none : bucket_word c.args.words.now ≡ None = sym c.read_serial.ensures.bucket ∙ ap (option_map (λ (named : Named). named.bucket.now)) c.in_default.is in
     refused in_line (g.R.Source.told c.args.script.now) (g.S.Site.told c.args.site.now) g.S.Store.Bucket.told g.S.Files.Shelf.told _ _
     (same_names None (bucket_word c.args.words.now) None (shelf_word c.args.words.now) None (block_word c.args.words.now) (sym none) (sym (c.read_check.ensures.none c.in-None.is none)) c.in-None.ensures.block)
-    c.without_bucket.ensures.verdict c.without_bucket.ensures.journal c.without_bucket.ensures.store refl refl
+    c.without_bucket.ensures.verdict c.without_bucket.ensures.journal c.without_bucket.ensures.store c.without_bucket.ensures.shelf c.without_bucket.ensures.note

@@ -37,18 +37,18 @@ returns-in-Some g c =
     let said = c.into_run-run.ensures in
     subst (λ (n : Option ℕ). ServesTool n (serial_names c.args.words.now) (call_of o saying (record c.into_run-run.result { day = day }))) c.in-Some.ensures.number
     (subst (λ (r : Run _ _). RunsDay c.in-Some.number (call_of o saying (record r { day = day }))) (sym said.2) (record {
-      verdict = ended.conclusion.verdict;
+      verdict = ended.verdict;
       status = said.0;
       done = record {
         run = is.came;
         unread = refl;
         unasked = (record { handed = refl; next = refl }, record { handed = refl; next = refl });
-        short = short_of ended.conclusion.verdict _ (refl, refl, unfailed_alone store 0 ended.conclusion.journal ended.conclusion.store is.store, if_none ended.shelf _ is.shelf);
+        short = short_of ended.verdict _ (refl, refl, unfailed_alone store 0 ended.journal ended.store is.store, if_none ended.shelf _ is.shelf);
       };
       said = said.1;
       number_is = refl;
       noted = is.noted;
-      full = full_said met bucket_told ended.conclusion.verdict saying said.0 ended.conclusion.journal (option_map (λ (n : RunNote MemoryBucket). n.world.value.bucket) day) day is.noted said.1;
+      full = full_said met bucket_told ended.verdict saying said.0 ended.journal (option_map (λ (n : RunNote MemoryBucket). n.world.value.bucket) day) day is.noted said.1;
       no_store = is.store;
       no_shelf = is.shelf;
       no_note = is.note;

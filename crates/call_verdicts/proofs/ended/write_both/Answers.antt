@@ -1,6 +1,6 @@
 use Rattle.call_verdicts.proofs.Pieces.{first_part}
 use Rattle.call_verdicts.proofs.Saying.{both_part, on_any_err}
-use Rattle.call_verdicts.proofs.conclusion.write_both.Goals as goal
+use Rattle.call_verdicts.proofs.ended.write_both.Goals as goal
 
 pub returns-in_err-write_all-clause-part : goal.returns-in_err-write_all-clause-part
 returns-in_err-write_all-clause-part g c =
