@@ -14,7 +14,7 @@ returns-in-Ok-clause-opened g c = record {
 
 pub returns-in-Err-clause-ended : goal.returns-in-Err-clause-ended
 returns-in-Err-clause-ended g c =
-    unopened_world g.B.Bucket.told c.args.script.now c.args.bucket c.in-Err.store c.in-Err.refusal c.unopened_verdict.result c.empty.result c.with_bucket.result
-    c.with_bucket.ensures.verdict c.with_bucket.ensures.journal c.empty.ensures c.with_bucket.ensures.store c.requires.unused
+    unopened_world g.B.Bucket.told c.args.script.now c.args.bucket c.in-Err.store c.in-Err.refusal c.unopened_verdict.result c.empty-journal.result c.with_bucket.result
+    c.with_bucket.ensures.verdict c.with_bucket.ensures.journal c.empty-journal.ensures c.with_bucket.ensures.store c.requires.unused
     c.in-Err.ensures.failed c.in-Err.ensures.not_empty c.in-Err.ensures.only c.in-Err.ensures.kept c.in-Err.ensures.asks
     c.unopened_verdict.ensures.failed c.unopened_verdict.ensures.not_empty c.unopened_verdict.ensures.none c.unopened_verdict.ensures.early
