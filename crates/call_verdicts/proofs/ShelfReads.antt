@@ -171,13 +171,13 @@ none_read told blocks = subst (λ (bs : List Block). AreRead told bs []) (sym (t
 pub one_read : (told : Option Contents) (front : List Block) (block : Block) (old new : List ShelfBlock) → AreRead told front old → IsReadNext told block old new → AreRead told (front ++ block ∷ []) new
 one_read told front block old new are (inl (other, same)) =
     subst (AreRead told (front ++ block ∷ [])) (sym same) (record {
-      each = All-weaker (IsOneOf told front) (IsOneOf told (front ++ block ∷ [])) (λ one is. (is.0, Contains-append_left front (block ∷ []) is.0 is.1, is.2)) old are.each;
+      each = All-weaker (IsOneOf told front) (IsOneOf told (front ++ block ∷ [])) (λ one is. (is.0, Contains-append_left front (block ∷ []) is.0 is.1, is.2, is.3)) old are.each;
       whole = All-append (IsThere old) front (block ∷ []) are.whole (All-cons (IsThere old) block [] (λ is. absurd (other is)) (All-nil (IsThere old)));
     })
 one_read told front block old new are (inr (is, one, same, found)) =
     subst (AreRead told (front ++ block ∷ [])) (sym same) (record {
       each = All-append (IsOneOf told (front ++ block ∷ [])) old (one ∷ [])
-          (All-weaker (IsOneOf told front) (IsOneOf told (front ++ block ∷ [])) (λ x own. (own.0, Contains-append_left front (block ∷ []) own.0 own.1, own.2)) old are.each)
+          (All-weaker (IsOneOf told front) (IsOneOf told (front ++ block ∷ [])) (λ x own. (own.0, Contains-append_left front (block ∷ []) own.0 own.1, own.2, own.3)) old are.each)
           (All-cons (IsOneOf told (front ++ block ∷ [])) one [] (block, Contains-append_right front (block ∷ []) block (contains_first block []), found, is) (All-nil (IsOneOf told (front ++ block ∷ []))));
       whole = All-append (IsThere (old ++ one ∷ [])) front (block ∷ []) (All-weaker (IsThere old) (IsThere (old ++ one ∷ [])) (λ b there. there_more old (one ∷ []) b there) front are.whole)
           (All-cons (IsThere (old ++ one ∷ [])) block [] (there_last old one block found.ulid) (All-nil (IsThere (old ++ one ∷ []))));
