@@ -1,6 +1,7 @@
 -- A shelf's files fix what is read of them: two settings of one script that are of one shelf are one.
-use Rattle.std.proofs.Common.{◌≡◌, ◌==◌, ◌⊎◌, inl, inr, ℕ, suc, ◌+◌, Bool, true, false, List, [], ◌∷◌, Contains, Some, Ok, Err, refl, sym, ◌∙◌, ap, subst, arith}
-use Rattle.std.specs.Prelude.{IsBytes, Result, slice_get}
+use Rattle.std.proofs.Common.{◌≡◌, ◌==◌, ◌⊎◌, inl, inr, ℕ, suc, ◌+◌, Bool, true, false, List, [], ◌∷◌, Contains, Some, refl, sym, ◌∙◌, ap, subst, arith}
+use Rattle.std.specs.Prelude.{slice_get}
+use Rattle.base.specs.Grammar.{IsBytes}
 use Rattle.std.specs.List.{AllByRecursion}
 use Rattle.std.proofs.lemmas.Bool.Decides.{nat_tests}
 use Rattle.std.proofs.lemmas.List.Elements.{All-contains}
@@ -15,7 +16,7 @@ use Rattle.block_content.specs.declared.check_refusal.CheckRefusal.{CheckRefusal
 use Rattle.block_content.proofs.CheckLaws.{check_again, check_refuses}
 use Rattle.block_content.proofs.SameFiles.{same_files}
 use Rattle.block_loading.specs.Loading.{IsLoaded, PassesOnShelf, RefusesLoad, RefusesOnShelf}
-use Rattle.block_loading.specs.LoadReading.{BlockParts, load_at, parts_of}
+use Rattle.block_loading.specs.LoadReading.{BlockParts, parts_of}
 use Rattle.block_loading.specs.declared.load_refusal.LoadRefusal.{LoadRefusal}
 use Rattle.block_loading.specs.declared.load_refusal.LoadRefusal.TheVariants as load
 use Rattle.block_loading.proofs.LoadLaws.{load_again, load_refuses}

@@ -1,5 +1,6 @@
 -- What a call reads of the shelf for the blocks of its script.
-use Rattle.std.specs.Prelude.{◌≡◌, ◌≢◌, ◌⊎◌, ℕ, List, [], ◌∷◌, ◌++◌, All, Contains, IsBytes, Option, Some, IfSome, Result, Ok, Err}
+use Rattle.std.specs.Prelude.{◌≡◌, ◌≢◌, ◌⊎◌, ℕ, List, [], ◌∷◌, ◌++◌, All, Contains, Option, Some, IfSome, Result, Ok, Err}
+use Rattle.base.specs.Grammar.{IsBytes}
 use Rattle.block_keys.specs.declared.key.Key.TheVariants.{Meta}
 use Rattle.block_content.specs.Checked.{checked_files}
 use Rattle.block_content.specs.declared.check_refusal.CheckRefusal.TheVariants.{NoFile}

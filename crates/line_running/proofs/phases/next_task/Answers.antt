@@ -1,4 +1,4 @@
-use Rattle.std.proofs.Common.{◌++◌, ◌∷◌, [], ◌+◌, refl, sym, subst, take}
+use Rattle.std.proofs.Common.{◌++◌, ◌∷◌, [], ◌+◌, sym, subst, take}
 use Rattle.std.specs.Prelude.{MatchResult, Ok, Err}
 use Rattle.report_lines.specs.lifecycle_core.specs.InLine.{seat_of}
 use Rattle.report_lines.specs.script_running.specs.Shelves.{setting_by}

@@ -1,10 +1,9 @@
-use Rattle.std.proofs.Common.{◌≡◌, ◌++◌, ◌∷◌, [], List, length, take, drop, refl, ap, sym, ◌∙◌, subst, arith}
-use Rattle.report_lines.specs.lifecycle_core.specs.InLine.{seat_of}
+use Rattle.std.proofs.Common.{◌++◌, List, length, take, drop, refl, ap, sym, ◌∙◌, subst, arith}
 use Rattle.report_lines.specs.script_running.specs.Beside.{AreSeen}
 use Rattle.report_lines.specs.script_running.specs.Shelves.{setting_by}
 use Rattle.report_lines.specs.script_running.specs.declared.sight.Sight.{Sight}
 use Rattle.line_running.specs.Progress.{PhaseStep}
-use Rattle.line_running.proofs.PhaseLists.{broken_from, broken_step, done_from, lawful_phase, phase_at, seats_next, short_before, taken_step, unbegun_step}
+use Rattle.line_running.proofs.PhaseLists.{broken_from, broken_step, done_from, phase_at, seats_next, short_before, taken_step, unbegun_step}
 use Rattle.line_running.proofs.Turns.{By, broke, not_full, result_is, slice_back, still, then_more}
 use Rattle.line_running.proofs.phases.run_phase.Goals as goal
 

@@ -1,4 +1,4 @@
-use Rattle.std.proofs.Common.{◌+◌, take, refl, sym, ◌∙◌, subst, arith, List}
+use Rattle.std.proofs.Common.{refl, sym, ◌∙◌, subst, arith, List}
 use Rattle.std.specs.Prelude.{MatchResult}
 use Rattle.report_lines.specs.lifecycle_core.specs.InLine.{seat_of}
 use Rattle.report_lines.specs.script_running.specs.Shelves.{setting_by}

@@ -1,4 +1,4 @@
-use Rattle.std.proofs.Common.{sym, ap, ◌∙◌}
+use Rattle.std.proofs.Common.{sym, ap}
 use Rattle.std.specs.Prelude.{is_some}
 use Rattle.line_running.proofs.Steps.{count_all, count_one}
 use Rattle.line_running.proofs.tasks.hand_count.Goals as goal
