@@ -1,4 +1,4 @@
-use Rattle.std.proofs.Common.{◌≤◌, ℕ, suc, List, length, take, take_all, drop, sym, tt, arith, subst}
+use Rattle.std.proofs.Common.{◌≤◌, ℕ, suc, List, length, take, take_all, drop, sym, arith, subst}
 use Rattle.world_core.specs.Journals.{Each}
 use Rattle.world_core.specs.Standing.{stands}
 use Rattle.world_core.specs.declared.entry.Entry.{Entry}
