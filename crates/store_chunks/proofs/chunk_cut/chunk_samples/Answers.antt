@@ -1,5 +1,5 @@
 use Rattle.store_chunks.proofs.ChunkBehind.{some_behind, none_behind, alone_as}
-use Rattle.store_chunks.proofs.chunks.chunk_samples.Goals as goal
+use Rattle.store_chunks.proofs.chunk_cut.chunk_samples.Goals as goal
 
 pub returns-in-Some : goal.returns-in-Some
 returns-in-Some c = alone_as (λ all. all.items) c.new.result.items _ c.in-Some.samples c.from_vec.result c.new.ensures.items c.from_vec.ensures
