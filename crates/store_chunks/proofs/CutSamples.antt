@@ -1,5 +1,5 @@
 -- The samples of a chunk that lie in the range.
-use Rattle.std.proofs.Common.{◌≡◌, ℕ, ℤ, ◌+◌, ◌≤◌, ◌≤ℤ◌, Bool, true, false, List, [], ◌∷◌, ◌++◌, length, take, drop, Option, Some, None, Result, Ok, Err, refl, sym, ap, subst, ◌∙◌, append_assoc, arith}
+use Rattle.std.proofs.Common.{◌≡◌, ℕ, ℤ, ◌+◌, ◌≤◌, ◌≤ℤ◌, Bool, true, false, ◌&&◌, List, [], ◌∷◌, ◌++◌, length, take, drop, Option, Some, None, Result, Ok, Err, refl, sym, ap, subst, ◌∙◌, append_assoc, arith}
 use Rattle.std.specs.Prelude.{slice_get, IfOk, IsErr, IsSomeAnd}
 use Rattle.std.specs.List.{list_all}
 use Rattle.std.proofs.lemmas.Bool.{and_parts}
@@ -15,7 +15,7 @@ use Rattle.matchers.specs.Selected.{is_between}
 use Rattle.xor_chunks.specs.declared.refusal.XorRefusal.{XorRefusal}
 use Rattle.xor_chunks.specs.Data.{data_at}
 use Rattle.xor_chunks.specs.Grammar.{IsText}
-use Rattle.xor_chunks.proofs.TextsRead.{data_found}
+use Rattle.xor_chunks.proofs.TextsRead.{found}
 use Rattle.chunk_files.specs.Layout.{xor}
 use Rattle.chunk_files.specs.ChunkReading.{chunk_at}
 use Rattle.chunk_files.proofs.ChunkLaws.{chunk_found}
@@ -58,7 +58,7 @@ stored_between bytes place samples are read timed =
     let one = bind_ok _ _ _ read in
     let chunk : chunk_at bytes ≡ Ok one.0 = refused_as_ok _ _ _ one.1 in
     let decoded : data_at 8 one.0 ≡ Ok samples = refused_as_ok _ _ _ one.2 in
-    text_between place one.0 samples ? (times_found place samples timed)
+    text_between place one.0 samples (found 8 one.0 (Ok samples) (content_bytes bytes one.0 are chunk) decoded) (times_found place samples timed)
 
 -- ---- those in the range
 
@@ -84,6 +84,11 @@ module _ (query : Query) (block : Block) (places : List ChunkPlace) (bytes : Lis
   abbrev IsInside : Type 0
   IsInside = IsSomeAnd (slice_get places 0) (λ place. (query.low ≤ℤ place.min) × (place.max ≤ℤ query.high))
 
+second_of_five : (a b c d e : Bool) → (a && b && c && d && e) ≡ true → b ≡ true
+second_of_five true true c d e all = refl
+second_of_five true false c d e all = absurd (cc (all))
+second_of_five false b c d e all = absurd (cc (all))
+
 -- where that is so, all samples lie in it
 inside_all : (query : Query) (block : Block) (places : List ChunkPlace) (bytes : List ℕ) → IsBytes bytes → IsInside query block places bytes → (whole : List Sample) → tested_at block places bytes ≡ Ok whole → in_range query whole ≡ whole
 unfolding tested_at
@@ -93,7 +98,7 @@ inside_all query block (place ∷ places) bytes are inside whole read =
     let tests = unless_ok (list_all (is_chunk_of block one.0) (place ∷ places)) tt _ whole one.2 in
     let same : one.0 ≡ whole = ok_is {E = Unit {0}} one.0 whole tests.1 in
     let first : is_chunk_of block one.0 place ≡ true = (and_parts _ _ tests.0).0 in
-    let timed : have_times_of place one.0 ≡ true = ? in
+    let timed : have_times_of place one.0 ≡ true = second_of_five _ _ _ _ _ first in
     subst (λ (l : List Sample). in_range query l ≡ l) same (within_all query place one.0 inside.0 inside.1 (stored_between bytes place one.0 are one.1 timed))
 
 pub inside_behind : {S : Type 0} (view : S → List Sample) (front : List Sample) (query : Query) (block : Block) (places : List ChunkPlace) (bytes : List ℕ) (r : Result (Option S) NoMemory) → IsBytes bytes → IsInside query block places bytes
