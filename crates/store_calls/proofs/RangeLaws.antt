@@ -1,6 +1,6 @@
 -- The samples of an answer lie in the range that is asked for.
 use Rattle.std.proofs.Common.{◌≡◌, ◌==◌, ℕ, Bool, true, false, List, [], ◌∷◌, ◌++◌, Some, Ok, refl, sym, subst, inl, inr}
-use Rattle.std.specs.Prelude.{All}
+use Rattle.std.specs.Prelude.{All, option_map, unwrap_or}
 use Rattle.std.specs.List.{AllByRecursion, find, flat_map}
 use Rattle.std.proofs.lemmas.List.Elements.{All-append, All-contains, All-from_recursion, All-nil, All-weaker, filter_passes, recursion_from_All}
 use Rattle.base.proofs.Binds.{bind_ok, ok_is}
@@ -62,19 +62,23 @@ all_cut Known Whole query block places (one ∷ found) are =
     let so = are.0.read_so in
     (cut_in query block (places_at places one.reference) _ one.samples so.reads_as, all_cut Known Whole query block places found are.1)
 
-samples_in : (query : Query) (found : List Read) (place : ChunkPlace) → AreCut query found → AreSamplesIn query (samples_of found place)
-samples_in query [] place are = tt
-samples_in query (one ∷ found) place are = by (one.reference == reference_of place) refl
-  where
-    by : (b : Bool) → (one.reference == reference_of place) ≡ b → AreSamplesIn query (samples_of (one ∷ found) place)
-    by true is = rw is are.0
-    by false is = rw is (samples_in query found place are.1)
+abbrev samples_at : List Read → ℕ → List Sample
+samples_at found reference = unwrap_or (option_map (λ (one : Read). one.samples) (find (λ (one : Read). one.reference == reference) found)) []
+
+first_or_later : (query : Query) (reference : ℕ) (one : Read) (found : List Read) (b : Bool) → (one.reference == reference) ≡ b → AreSamplesIn query one.samples → AreSamplesIn query (samples_at found reference)
+    → AreSamplesIn query (samples_at (one ∷ found) reference)
+first_or_later query reference one found true is own later = rw is own
+first_or_later query reference one found false is own later = rw is later
+
+samples_in : (query : Query) (found : List Read) (reference : ℕ) → AreCut query found → AreSamplesIn query (samples_at found reference)
+samples_in query [] reference are = tt
+samples_in query (one ∷ found) reference are = first_or_later query reference one found (one.reference == reference) refl are.0 (samples_in query found reference are.1)
 
 all_samples_in : (query : Query) (found : List Read) (places : List ChunkPlace) → AreCut query found → AreSamplesIn query (flat_map (samples_of found) places)
 all_samples_in query found [] are = tt
 all_samples_in query found (place ∷ places) are =
     AllByRecursion-append (λ (s : Sample). is_between query.low query.high s.time ≡ true) (samples_of found place) (flat_map (samples_of found) places)
-    (samples_in query found place are) (all_samples_in query found places are)
+    (samples_in query found (reference_of place) are) (all_samples_in query found places are)
 
 under_in : (query : Query) (labels : List Label) (samples : List Sample) → AreSamplesIn query samples → AllByRecursion (IsIn query) (triples_under labels samples)
 unfolding triples_under
