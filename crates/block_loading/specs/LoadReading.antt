@@ -16,9 +16,8 @@ use Rattle.block_content.specs.declared.check_refusal.CheckRefusal.TheVariants a
 use Rattle.bucket_core.specs.Causes.{Rose}
 use Rattle.bucket_core.specs.Contents.{Contents}
 use Rattle.bucket_core.specs.Asking.{Asks}
-use Rattle.bucket_core.specs.Files.{file_limit}
 use Rattle.bucket_core.specs.Told.{ShelfTold}
-use Rattle.block_loading.specs.Loading.{load_limit, last_segment, HasSegments, Reaches, StopsAt, key_after, names_after, names_read}
+use Rattle.block_loading.specs.Loading.{limit_of, load_limit, last_segment, HasSegments, Reaches, StopsAt, key_after, names_after, names_read}
 use Rattle.block_loading.specs.declared.load_refusal.LoadRefusal.{LoadRefusal}
 use Rattle.block_loading.specs.declared.load_refusal.LoadRefusal.TheVariants.{Refused, ShelfFault, NoMemory}
 
@@ -128,7 +127,7 @@ refused_meta refusal = Refused (check.BadMeta refusal)
 -- the bytes of a file, if there is one
 abbrev pub file_in : Key → Option (List ℕ) → Result (List ℕ) LoadRefusal
 file_in key None = Err (Refused (check.NoFile key))
-file_in key (Some bytes) = if nat_lt file_limit (length bytes) then Err (Refused (check.TooLarge key)) else Ok bytes
+file_in key (Some bytes) = if nat_lt (limit_of key) (length bytes) then Err (Refused (check.TooLarge key)) else Ok bytes
 
 unfoldable pub file_at : Contents → Key → Result (List ℕ) LoadRefusal
 file_at told key = file_in key (told (key_text key))

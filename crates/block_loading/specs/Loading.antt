@@ -26,10 +26,19 @@ use Rattle.bucket_core.specs.Files.{file_limit}
 
 -- ---- files
 
--- The file under the key has these bytes, and does not pass the limit.
+-- how many bytes the meta of a block may have
+abbrev pub meta_limit : ℕ
+meta_limit = 2 ^ 22
+
+-- how many bytes the file under a key may have
+abbrev pub limit_of : Key → ℕ
+limit_of (Meta owner) = meta_limit
+limit_of key = file_limit
+
+-- The file under the key has these bytes, and does not pass its limit.
 pub record HasFile (told : Contents) (key : Key) (bytes : List ℕ) : Type 0 where
   pub stands : told (key_text key) ≡ Some bytes
-  pub within : length bytes ≤ file_limit
+  pub within : length bytes ≤ limit_of key
 
 -- the meta of the block is this one
 pub record HasMeta (told : Contents) (ulid : ℕ) (meta : MetaFields) : Type 0 where
@@ -53,10 +62,10 @@ pub record HasSegments (told : Contents) (ulid : ℕ) (segments : List (List ℕ
 
 -- ---- how large a block is, whatever a shelf tells
 
--- The meta was read of a text that does not pass the limit, and no list of it has more members than that text has bytes.
+-- The meta was read of a text that does not pass its limit, and no list of it has more members than that text has bytes.
 pub record IsOfText (meta : MetaFields) : Type 0 where
   pub text : List ℕ
-  pub within : length text ≤ file_limit
+  pub within : length text ≤ meta_limit
   pub reads : meta_of_text text ≡ Ok meta
   pub few : HasFew meta (length text)
 
@@ -133,7 +142,7 @@ pub record PassesTogether (told : Contents) (ulid : ℕ) (key : Key) : Type 0 wh
 -- The block cannot be loaded, and this is why.
 abbrev pub RefusesLoad : Contents → ℕ → CheckRefusal → Type 0
 RefusesLoad told ulid (NoFile key) = Reaches told ulid key × (told (key_text key) ≡ None)
-RefusesLoad told ulid (TooLarge key) = Reaches told ulid key × (IsSomeAnd (told (key_text key)) (λ bytes. file_limit < length bytes) ⊎ PassesTogether told ulid key)
+RefusesLoad told ulid (TooLarge key) = Reaches told ulid key × (IsSomeAnd (told (key_text key)) (λ bytes. limit_of key < length bytes) ⊎ PassesTogether told ulid key)
 RefusesLoad told ulid (BadMeta refusal) = (text : List ℕ) × HasFile told (Meta ulid) text × (meta_of_text text ≡ Err refusal) × (refusal ≢ meta.NoMemory)
 RefusesLoad told ulid (BadIndex refusal) = (fields : MetaFields) × (bytes : List ℕ) × HasMeta told ulid fields × HasFile told (Index ulid) bytes × (index_at bytes ≡ Err refusal) × (refusal ≢ index.NoMemory)
 RefusesLoad told ulid UlidDiffers = ⊥
@@ -170,10 +179,10 @@ names_read ulid count = names_after ulid 0 count
 abbrev pub IsLast : ℕ → ℕ → Key → Type 0
 IsLast ulid count key = (before : ℕ) × (count ≡ before + 1) × (key ≡ key_after ulid before)
 
--- A text that does not pass the limit is refused as a meta for this.
+-- A text that does not pass the limit of metas is refused as one for this.
 pub record IsBadMeta (refusal : MetaRefusal) : Type 0 where
   pub text : List ℕ
-  pub within : length text ≤ file_limit
+  pub within : length text ≤ meta_limit
   pub reads : meta_of_text text ≡ Err refusal
   pub told : refusal ≢ meta.NoMemory
 

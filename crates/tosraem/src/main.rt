@@ -11,18 +11,21 @@ ghost use Rattle.tosraem.specs.Calls.{names_replay};
 
 mod advice;
 mod kept_source;
+mod progress;
 mod report_sink;
 mod room;
 mod troubles;
 
 use crate::advice::tell;
 use crate::kept_source::KeptSource;
+use crate::progress::Progress;
 use crate::report_sink::ReportSink;
 use crate::room::WithRoom;
 use crate::troubles::Troubles;
 use base::NoMemory;
 use bucket_core::{Sink, Site, Source};
 use dir_bucket::HostSite;
+use phase_runner::Gate;
 use replay_cli::{Crew, ReaderSource, Run, Status, run_replay, run_tool};
 use run_messages::{ToldList, messages};
 use std::alloc::Global;
@@ -58,7 +61,11 @@ fn serve<T: Threads + Wait + Sync>(
     let mut site = site;
     let mut script = KeptSource::new(alloc, ReaderSource::new(rt.reader()));
     let mut out = ReportSink::new(alloc, io::writer(rt));
-    let ended = run(threads, alloc, words, &mut site, &mut script, &mut out);
+    let crew = Crew {
+        threads,
+        gate: &Progress::new(rt),
+    };
+    let ended = run(&crew, alloc, words, &mut site, &mut script, &mut out);
     let troubles = Troubles {
         bucket: site
             .bucket_trouble()
@@ -100,9 +107,9 @@ fn messages_of(
 }
 
 /// Does what the words ask for: with threads where they name a replay, and else one task after another. It hands back the run that
-/// the call made, and promises all that this call promises.
-fn run<S: Site, R: Source, K: Sink, T: Threads + Wait + Sync>(
-    threads: &T,
+/// the call made, and promises all that this call promises. The gate of the crew is told how far the run is.
+fn run<S: Site, R: Source, K: Sink, G: Gate + Sync, T: Threads + Wait + Sync>(
+    crew: &Crew<'_, T, G>,
     alloc: Global,
     words: &[String],
     site: &mut S,
@@ -123,14 +130,14 @@ where
         (saying_to (K.told out.old) (K.told out.new)) result) }
 {
     if asks_for_threads(words) {
-        let room = WithRoom::new(alloc);
-        let crew = Crew {
-            threads,
+        let room = WithRoom::new(alloc, crew.gate);
+        let roomy = Crew {
+            threads: crew.threads,
             gate: &room,
         };
-        run_replay(&crew, alloc, words, site, script, out)
+        run_replay(&roomy, alloc, words, site, script, out)
     } else {
-        run_tool(alloc, words, site, script, out)
+        run_tool(alloc, words, site, script, out, crew.gate)
     }
 }
 
