@@ -11,9 +11,7 @@ ghost use Rattle.script_running.specs.Reporting.{AddsTo};
 ghost use Rattle.script_running.specs.Workers.{IsAtWork};
 ghost use Rattle.script_running.specs.Outcomes.{Outcome};
 
-use crate::{
-    Broken, Means, Part, Progress, Report, Sight, WorkerEnd, WorkerJob, outcome_of,
-};
+use crate::{Broken, Means, Part, Progress, Report, Sight, WorkerEnd, WorkerJob, outcome_of};
 use base::{NoMemory, TryCopy};
 use querier::CompareWay;
 use script_core::{Phase, Script, Task, Worker};
@@ -183,7 +181,8 @@ fn take_in(
     ensures each { length sights.new.items ≡ length sights.old.items }
     ensures wide { IfOk result (λ lists. length lists.items ≡ tasks) }
     ensures taken { IfOk result
-        (λ lists. AreTakenIn (map back_of backs.entry.items) sights.old.items sights.new.items lists.items) }
+        (λ lists. AreTakenIn (map back_of backs.entry.items) sights.old.items
+        sights.new.items lists.items) }
 {
     let mut lists = no_parts(alloc, tasks)?;
     for back in backs {
