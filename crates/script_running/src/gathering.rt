@@ -177,7 +177,8 @@ fn take_in(
 ) -> Result<Vec<TaskParts>, NoMemory>
     requires gateways { All (λ back. IfSome (back_of back).0.gateway
         (λ gateway. gateway < length sights.old.items)) backs.items }
-    requires places { All (λ back. All (λ place. place < tasks) (back_of back).0.tasks) backs.items }
+    requires places { All (λ back. All (λ place. place < tasks) (back_of back).0.tasks)
+        backs.items }
     ensures each { length sights.new.items ≡ length sights.old.items }
     ensures wide { IfOk result (λ lists. length lists.items ≡ tasks) }
     ensures taken { IfOk result
