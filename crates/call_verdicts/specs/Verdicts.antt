@@ -1,6 +1,5 @@
 -- What a call of the program comes to, why, and what it then writes.
 use Rattle.std.specs.Prelude.{◌≡◌, ◌≢◌, ◌⊎◌, ◌<◌, ℕ, List, [], ◌∷◌, ◌++◌, Bool, true, false, Option, Some, None, option_map, IfSome, IsSome, IsSomeAnd, Ok, Err, codes}
-use Rattle.std.specs.List.{list_all}
 use Rattle.base.specs.Lines.{newline}
 use Rattle.bucket_core.specs.Causes.{Rose}
 use Rattle.bucket_core.specs.Contents.{Contents, nothing}
@@ -14,28 +13,21 @@ use Rattle.script_core.specs.GivenUp.{HasPatternLine}
 use Rattle.script_core.specs.Lawful.{IsLawfulScript}
 use Rattle.script_core.specs.Reading.{script_of}
 use Rattle.script_fields.specs.Wording.{refusal_text}
-use Rattle.script_workers.specs.declared.phase.Phase.{Phase}
 use Rattle.script_core.specs.declared.script.Script.{Script}
 use Rattle.script_fields.specs.declared.cause.LineCause.TheVariants.{PatternSizeText}
 use Rattle.script_fields.specs.declared.script_refusal.ScriptRefusal.{ScriptRefusal}
 use Rattle.script_fields.specs.declared.script_refusal.ScriptRefusal.TheVariants.{BadLine, TooLong}
 use Rattle.report_lines.specs.lifecycle_core.specs.Breaches.{IsUnbroken}
 use Rattle.report_lines.specs.lifecycle_core.specs.Causes.{AreWell}
-use Rattle.report_lines.specs.lifecycle_core.specs.Cuts.{IsCutBehind}
-use Rattle.report_lines.specs.lifecycle_core.specs.Guarantees.{IsGuaranteed, IsGuaranteedJournal}
-use Rattle.report_lines.specs.lifecycle_core.specs.Phases.{IsFinished, IsRunOf}
+use Rattle.report_lines.specs.lifecycle_core.specs.Guarantees.{IsGuaranteedJournal}
 use Rattle.report_lines.specs.lifecycle_core.specs.Quiet.{DeletesNothing}
 use Rattle.report_lines.specs.lifecycle_core.specs.Setting.{Setting}
-use Rattle.report_lines.specs.lifecycle_core.specs.Tasks.{End}
 use Rattle.report_lines.specs.CheckLines.{check_line}
+pub use Rattle.report_lines.specs.WholeRuns.{IsFullRun, IsReport, IsWholeRun}
 use Rattle.call_verdicts.specs.Checks.{check_status, files_of, IsCheckOf}
 use Rattle.call_verdicts.specs.Kept.{AsksNoBucket, AsksNoShelf, HoldsNothing, IsOpened, IsUnfailed, told_of}
-use Rattle.report_lines.specs.script_running.specs.Outcomes.{Outcome, PhasesCame, is_as_asked}
 use Rattle.call_verdicts.specs.Outside.{Names, Outside}
 use Rattle.call_verdicts.specs.Output.{IsWrittenInPart}
-use Rattle.report_lines.specs.breach_finding.specs.declared.found.Breach.{Breach}
-use Rattle.report_lines.specs.BreachLines.{HasBreach, breach_text}
-use Rattle.report_lines.specs.Telling.{report_of, tasks_of}
 use Rattle.call_verdicts.specs.ShelfReads.{IsOfShelf}
 use Rattle.call_verdicts.specs.Shippable.{RefusesNone, StaysWithin}
 use Rattle.call_verdicts.specs.Statuses.{number_of}
@@ -103,40 +95,6 @@ is_at_hand (ScriptRefused refusal) = false
 is_at_hand (NotEmpty name) = false
 is_at_hand (Checked block outcome) = false
 is_at_hand NoMemory = false
-
--- ---- reports
-
--- The text is the report of these phases, by the ends to which their workers came; the flag tells whether all tasks ended as
--- asked.
-pub record IsReport (script : Script) (phases : List Phase) (ends : List (List (List End))) (as_asked : Bool) (text : List ℕ) : Type 0 where
-  pub outcomes : List Outcome
-  pub came : PhasesCame script 0 phases ends outcomes
-  pub lines : text ≡ report_of script (tasks_of phases) outcomes
-  pub flag : as_asked ≡ list_all is_as_asked outcomes
-
--- The journal is that of the whole script: each of its phases was begun, all its tasks have come to their ends, and the text
--- is their report, with the line of the journal's breach behind it. All that is guaranteed of these ends holds.
-pub record IsWholeRun (setting : Setting) (as_asked : Bool) (text : List ℕ) (journal : List Entry) : Type 0 where
-  pub ends : List (List (List End))
-  pub run : IsRunOf setting journal ends
-  pub finished : IsFinished setting ends
-  pub lines : List ℕ
-  pub report : IsReport setting.script setting.script.phases ends as_asked lines
-  pub breach : Option Breach
-  pub breaks : HasBreach setting.script journal breach
-  pub text_is : text ≡ lines ++ breach_text breach
-  pub guaranteed : IsGuaranteed setting journal ends
-
--- The full journal broke the run off behind some first phases, and the text is their report. All that is guaranteed of the ends to
--- which its workers came holds.
-pub record IsFullRun (setting : Setting) (text : List ℕ) (journal : List Entry) : Type 0 where
-  pub done : List Phase
-  pub told : List (List (List End))
-  pub cut : IsCutBehind setting journal done told
-  pub full : IsFull journal
-  pub as_asked : Bool
-  pub report : IsReport setting.script done told as_asked text
-  pub guaranteed : IsGuaranteed setting journal (told ++ cut.untold)
 
 -- ---- causes
 

@@ -1,7 +1,7 @@
 //! The phases of a script, whose tasks one hand does in the order of their lines. What a phase reports joins the rest
 //! only once it is finished, so a run that breaks off reports whole phases alone.
 
-ghost use Rattle.std.specs.Prelude.{◌≡◌, ◌++◌, ◌+◌, ◌<◌, [], ◌∷◌, length, take, List, Ok, Err, IfOk, OnErr, OnOk, MatchResult};
+ghost use Rattle.std.specs.Prelude.{◌≡◌, ◌++◌, ◌+◌, ◌<◌, [], ◌∷◌, length, Ok, Err, IfOk, OnErr, OnOk, MatchResult};
 ghost use Rattle.std.specs.List.{All};
 ghost use Rattle.world_core.specs.Keeping.{IsFull};
 ghost use Rattle.world_core.specs.declared.entry.Entry.{Entry};
@@ -167,7 +167,7 @@ fn begin_phase<B: Bucket, G: Gate>(
     }
 }
 
-/// Runs tasks, and tells how they came out.
+/// Runs tasks one after another, and tells how they came out.
 fn run_tasks<B: Bucket, R: PhaseReport + Drop, G: Gate>(
     phase: &PhaseWork<'_>,
     sights: &mut [Sight],
@@ -187,40 +187,13 @@ fn run_tasks<B: Bucket, R: PhaseReport + Drop, G: Gate>(
 {
     let mut lines = R::empty(phase.alloc);
     for place in 0..phase.tasks.len() {
-        next_task(phase, place, sights, &mut lines, hand)?;
+        let task = &phase.tasks[place];
+        let outcome = do_task(phase, task, place, sights, hand)?;
+        let told = lines.add(phase.script, task, &outcome);
+        drop(outcome);
+        let Ok(()) = told else {
+            return Err(Broken::NoMemory);
+        };
     }
     Ok(lines)
-}
-
-/// Runs the task at a place, and adds its lines to those of the tasks before it.
-fn next_task<B: Bucket, R: PhaseReport + Drop, G: Gate>(
-    phase: &PhaseWork<'_>,
-    place: usize,
-    sights: &mut [Sight],
-    lines: &mut R,
-    hand: &mut GatedHand<'_, B, G>,
-) -> Result<(), Broken>
-    requires means { HaveMeans phase.now.script.now phase.now.means.now phase.now.tasks.now
-        (length sights.old) }
-    requires within { place < length phase.now.tasks.now }
-    ensures came { (views : Holdings) (start : List Entry)
-        → TasksDone (R.tells lines.old) (line_of phase.now) (take place phase.now.tasks.now)
-        views sights.old start hand.old.world.journal
-        → MatchResult result
-        (λ done. TasksDone (R.tells lines.new) (line_of phase.now)
-        (take (place + 1) phase.now.tasks.now) views sights.new start hand.new.world.journal)
-        (λ broken. TasksBroken (line_of phase.now) phase.now.tasks.now
-        views start hand.new.world.journal broken) }
-    ensures hand { TurnedRun B.told hand.old hand.new (is_full_came result)
-        (is_short_came result) }
-    ensures ready { length sights.new ≡ length sights.old }
-{
-    let task = &phase.tasks[place];
-    let outcome = do_task(phase, task, place, sights, hand)?;
-    let told = lines.add(phase.script, task, &outcome);
-    drop(outcome);
-    match told {
-        Ok(()) => Ok(()),
-        Err(NoMemory) => Err(Broken::NoMemory),
-    }
 }

@@ -2,6 +2,7 @@ pub mod BreachLines
 pub mod CheckLines
 pub mod Reports
 pub mod Telling
+pub mod WholeRuns
 pub mod Summed
 pub mod Tallies
 pub use Rattle.breach_finding

@@ -1,24 +1,28 @@
--- The ends of a phase's workers, laid together, are what its tasks came to.
-use Rattle.std.proofs.Common.{◌≡◌, inl, inr, ℕ, ℤ, zero, suc, ◌+◌, ◌≤◌, List, [], ◌∷◌, ◌++◌, length, map, Contains, Option, Some, refl, sym, ◌∙◌, ap, subst, arith}
+-- The ends of a phase's workers, in the order of their turns, are what its tasks came to.
+use Rattle.std.proofs.Common.{◌≡◌, ◌≢◌, inl, inr, ℕ, zero, suc, ◌+◌, Bool, true, false, List, [], ◌∷◌, ◌++◌, length, map, get_or, Contains, Option, Some, refl, sym, ◌∙◌, ap, subst, arith}
 use Rattle.std.specs.Prelude.{Ok, Result, slice_get}
-use Rattle.std.specs.List.{All, AllByRecursion, AllZip, flat_map, range_with_len, zip}
-use Rattle.std.proofs.lemmas.List.Elements.{All-contains, All-head, All-tail}
+use Rattle.std.specs.List.{All, AllByRecursion, AllZip, IsDistinct, zip}
+use Rattle.std.proofs.lemmas.List.Elements.{All-contains, All-head, All-map, All-tail}
+use Rattle.std.proofs.lemmas.List.Sorted.{All-permutation, Contains-permutation, IsPermutation-sym}
+use Rattle.std.proofs.lemmas.Map.Keys.{IsDistinct-IsPermutation, IsDistinct-from_apart}
 use Rattle.std.proofs.lemmas.Option.{slice_get_within}
 use Rattle.std.proofs.lemmas.Slice.Zip.{AllZip-long}
-use Rattle.base.proofs.Lists.{cons_same}
+use Rattle.base.proofs.Bools.{by_bool}
+use Rattle.base.proofs.Lists.{cons_same, zip_firsts}
 use Rattle.base.proofs.Membership.{contains_first, contains_later, contains_place, member_cases, no_member, place_of_member}
-use Rattle.base.proofs.Pairs.{second_in_zip, beside_first}
+use Rattle.base.proofs.Pairs.{AllZip-as_long, beside_first, first_in_zip, second_in_zip}
 use Rattle.base.proofs.Options.{one_value}
 use Rattle.script_workers.specs.Hands.{gateway_count, gateway_of, hands_of, hands_of_task}
 use Rattle.script_workers.specs.Staff.{AreSeated, IsStaff, IsWorkerOf}
-use Rattle.script_workers.specs.Whose.{IsFor, IsTaskOf, does_alone, asks, syncs}
+use Rattle.script_workers.specs.Whose.{IsFor, IsTaskOf}
 use Rattle.script_workers.specs.declared.hand.Hand.{Hand}
-use Rattle.script_workers.specs.declared.hand.Hand.TheVariants as hands
 use Rattle.script_workers.specs.declared.phase.Phase.{Phase}
 use Rattle.script_workers.specs.declared.task.Task.{Task}
 use Rattle.script_workers.specs.declared.work.Work.{Work}
-use Rattle.script_workers.specs.declared.work.Work.TheVariants as works
 use Rattle.script_workers.specs.declared.worker.Worker.{Worker}
+use Rattle.script_workers.proofs.HandLaws.{contained, does_for, for_does, tested}
+use Rattle.script_core.specs.Lawful.{IsLawfulScript}
+use Rattle.script_core.proofs.SeatLaws.{few_gateways}
 use Rattle.world_core.specs.declared.entry.Entry.{Entry}
 use Rattle.lifecycle_core.specs.Conducts.{AreDone, Assigned, CameTo, TasksAt, who_of}
 use Rattle.lifecycle_core.specs.Holdings.{Holding, Holdings, holding_of}
@@ -28,14 +32,15 @@ use Rattle.lifecycle_core.proofs.phases.TaskRuns.{tasks_long}
 use Rattle.script_running.specs.Begun.{AreLeft, Made, ends_in, workers_in}
 use Rattle.script_running.specs.Beside.{AreSeen}
 use Rattle.script_running.specs.Ended.{HasEnded, HaveEnded}
-use Rattle.script_running.specs.Gathering.{AreSeenBeside, AreTakenIn, AreTold, IsFilled, IsToldBy, laid_in, parts_at, slot_at}
+use Rattle.script_running.specs.Gathering.{AreInTurn, AreSeenBeside, AreTakenIn, AreTold, IsToldBy, own_parts, parts_at, parts_of, turn_by, turn_of}
 use Rattle.script_running.specs.Outcomes.{IsPart, Outcome, Part, TaskCame, TasksCame}
-use Rattle.script_running.proofs.AllParts.{all_parts}
+use Rattle.script_running.proofs.AllParts.{all_parts, few_parts}
+use Rattle.script_running.proofs.Turns.{AreOf, aligned, clash, clash_flips, clash_says, hands_rise, has_it, has_none, has_place, has_yes, no_twice, one_for, paired_once, turns_alike, turns_rise, zip_first_at}
 use Rattle.script_running.specs.Sights.{Sees}
 use Rattle.script_running.specs.Tasks.{WhenDone}
 use Rattle.script_running.specs.declared.came.Broken.{Broken}
 use Rattle.script_running.specs.Workers.{AreParts, IsBrokenOff, OwnRun}
-use Rattle.script_running.specs.declared.gathering.Slots.{Slots}
+use Rattle.script_running.specs.declared.gathering.TaskParts.{TaskParts}
 use Rattle.script_running.specs.declared.sight.Sight.{Sight}
 use Rattle.script_running.specs.declared.worker.WorkerEnd.{WorkerEnd}
 
@@ -139,26 +144,28 @@ module _ (setting : Setting) (tasks : List Task) (before : Holdings) (front : Li
         ap suc rest.1,
       )
 
--- ---- who does a task
-
--- those who are its hands do it
-abbrev Fors : ℕ → ℕ → Work → List Hand → Type 0
-Fors gateways place w hs = AllByRecursion (λ (h : Hand). IsFor gateways h place w) hs
-
-asked_fors : (gateways place number count : ℕ) (low high : ℤ) (selector : ℕ) → number + count ≤ gateways → Fors gateways place (works.Query low high selector) (map hands.Gateway (range_with_len number count))
-asked_fors gateways place number zero low high selector within = tt
-asked_fors gateways place number (suc count) low high selector within =
-    (asks number refl refl (omega (arith, within)), asked_fors gateways place (number + 1) count low high selector (omega (arith, within)))
-
-all_fors : (gateways place : ℕ) (w : Work) → Fors gateways place w (hands_of_task gateways place w)
-unfolding hands_of_task
-all_fors gateways place (works.Upload ulid stop) = (does_alone refl (λ g is. cc (is)) refl, tt)
-all_fors gateways place (works.Sync gateway) = (syncs gateway refl refl, tt)
-all_fors gateways place (works.Compact stop) = (does_alone refl (λ g is. cc (is)) refl, tt)
-all_fors gateways place (works.Clean stop) = (does_alone refl (λ g is. cc (is)) refl, tt)
-all_fors gateways place (works.Query low high selector) = asked_fors gateways place 0 gateways low high selector (omega arith)
+not_yes : (b : Bool) → (b ≡ true → ⊥) → b ≡ false
+not_yes b never = by_bool b (λ is. absurd (never is)) (λ isnt. isnt)
 
 -- ---- all tasks
+
+-- the ends of those who do a task, and their parts
+record ByHands (w : Work) (place : ℕ) (workers : List Worker) (ends : List (List End)) (hs : List Hand) (parts : List Part) : Type 0 where
+  own : List End
+  came : AllZip (λ hand end. CameTo workers ends (gateway_of hand) place end) hs own
+  are : AllZip (IsPart w) own parts
+
+module _ (w : Work) (place : ℕ) (workers : List Worker) (ends : List (List End)) where
+  -- the part of one who does a task
+  abbrev Gave : Hand → List Part → Type 0
+  Gave h parts = (end : End) × (one : Part) × (parts ≡ one ∷ []) × CameTo workers ends (gateway_of h) place end × IsPart w end one
+
+  by_hands : (hs : List Hand) (parts : List Part) → AreOf Gave hs parts → ByHands w place workers ends hs parts
+  by_hands [] parts none = record { own = []; came = tt; are = subst (λ (l : List Part). AllZip (IsPart w) [] l) (sym none) tt }
+  by_hands (h ∷ hs) parts (first, rest, is, (end, one, only, came, part), more) =
+      let by = by_hands hs rest more in
+      let whole : one ∷ rest ≡ parts = ap (λ (l : List Part). l ++ rest) (sym only) ∙ sym is in
+      record { own = end ∷ by.own; came = (came, by.came); are = subst (λ (l : List Part). AllZip (IsPart w) (end ∷ by.own) l) whole (part, by.are) }
 
 -- a worker that was not broken off sees by what it holds
 seen_by : (last : Holding) (end : WorkerEnd) → end.came ≡ Ok tt → WhenDone end.came (Sees last end.sight) → Sees last end.sight
@@ -168,8 +175,7 @@ module _ (setting : Setting) (number : ℕ) (phase : Phase) (taken : ℕ)
     (staff : IsStaff (gateway_count setting.script.gateways) phase.tasks (hands_of (gateway_count setting.script.gateways) phase.tasks)) (made : List Made)
     (seated : AreSeated (gateway_count setting.script.gateways) phase.tasks (hands_of (gateway_count setting.script.gateways) phase.tasks) taken (workers_in made))
     (before after : Holdings) (front : List Entry) (others : List WorkerEnd) (have : HaveEnded setting phase.tasks before front made others) (left : AreLeft before made after)
-    (sights seen : List Sight) (old new : Slots) (all : All (λ (e : WorkerEnd). e.came ≡ Ok tt) others) (taken_in : AreTakenIn (workers_in made) others sights seen old new)
-    (empty : (gateway : Option ℕ) (place : ℕ) (o : Part) → slot_at old gateway place ≡ Some (Some o) → ⊥) (counted : length new.gateways.items ≡ gateway_count setting.script.gateways) where
+    (lawful : IsLawfulScript setting.script) (all : All (λ (e : WorkerEnd). e.came ≡ Ok tt) others) (backs : List (Worker × WorkerEnd)) (turns : AreInTurn (workers_in made) others backs) where
   abbrev workers : List Worker
   workers = workers_in made
 
@@ -179,97 +185,121 @@ module _ (setting : Setting) (number : ℕ) (phase : Phase) (taken : ℕ)
   abbrev gateways : ℕ
   gateways = gateway_count setting.script.gateways
 
+  abbrev own_hands : List Hand
+  own_hands = hands_of gateways phase.tasks
+
   done : AreDone workers ends × (length workers ≡ length others)
   done = are_done setting phase.tasks before front after made others have all
 
+  among : (back : Worker × WorkerEnd) → Contains backs back → Contains (zip workers others) back
+  among back here = Contains-permutation backs (zip workers others) back (IsPermutation-sym (zip workers others) backs turns.same) here
+
   -- a worker is a hand's
   of_hand : (w : Worker) → Contains workers w → (h : Hand) × (n : ℕ) × IsWorkerOf gateways phase.tasks h n w
-  of_hand w among =
-      let at = place_of_member workers w among in
-      let h = same_place workers (hands_of gateways phase.tasks) at.0 w seated.count at.1 in
+  of_hand w here =
+      let at = place_of_member workers w here in
+      let h = same_place workers own_hands at.0 w seated.count at.1 in
       (h.0, taken + at.0 + 1, seated.each at.0 h.0 w h.1 at.1)
 
-  -- a slot that is filled has its worker's part
-  filled : (gateway : Option ℕ) (place : ℕ) (task : Task) (o : Part) → slice_get phase.tasks place ≡ Some task → slot_at new gateway place ≡ Some (Some o) → (end : End) × CameTo workers ends gateway place end × IsPart task.work end o
-  filled gateway place task o at is = elim (taken_in.origin gateway place o is) [
-    | inl older ↦ absurd (empty gateway place o older)
-    | inr (w, e, among, whose, here) ↦
-        let c = comes setting phase.tasks before front after made others w e have left.own among in
-        let one = c.one in
-        let came = part_at phase.tasks one.worker.tasks ((c.has).was).own one.ends e.parts.items place o ((c.has).was).are (c.has).parts (subst (λ (v : Worker). Contains (zip v.tasks e.parts.items) (place, o)) (sym c.is) here) in
+  module _ (place : ℕ) (task : Task) (at : slice_get phase.tasks place ≡ Some task) where
+    abbrev hs : List Hand
+    hs = hands_of_task gateways place task.work
+
+    for_hand : (w : Worker) (h : Hand) (n : ℕ) → IsWorkerOf gateways phase.tasks h n w → Contains w.tasks place → IsFor gateways h place task.work
+    for_hand w h n of inside =
+        let t = All-contains (IsTaskOf gateways phase.tasks h) w.tasks place (of.places).only inside in
+        subst (λ (x : Task). IsFor gateways h place x.work) (one_value t.task task (slice_get phase.tasks place) t.is at) t.whose
+
+    -- whoever has the task at its places is a hand of it, and gave its part
+    gave : (back : Worker × WorkerEnd) → Contains backs back → Contains back.0.tasks place → (h : Hand) × Contains hs h × (turn_by (gateway_of h) ≡ turn_of back) × Gave task.work place workers ends h (own_parts place back)
+    gave (w, e) here inside =
+        let there = among (w, e) here in
+        let of = of_hand w (first_in_zip workers others w e there) in
+        let h = of.0 in
+        let c = comes setting phase.tasks before front after made others w e have left.own there in
+        let whole = one_done setting phase.tasks before front after c.one e c.has (All-contains (λ (x : WorkerEnd). x.came ≡ Ok tt) others e all (second_in_zip workers others w e there)) in
+        let long : length w.tasks ≡ length e.parts.items = subst (λ (v : Worker). length v.tasks ≡ length e.parts.items) c.is whole.1 in
+        let one = paired_once place w.tasks e.parts.items long ((of.2).places).ascend inside in
+        let came = part_at phase.tasks (c.one).worker.tasks ((c.has).was).own (c.one).ends e.parts.items place one.0 ((c.has).was).are (c.has).parts (subst (λ (v : Worker). Contains (zip v.tasks e.parts.items) (place, one.0)) (sym c.is) one.2) in
         let same : came.task ≡ task = one_value came.task task (slice_get phase.tasks place) came.at at in
-        (came.end, record { worker = one.worker; own = one.ends; among = made_among made one c.among; is = ap (λ (v : Worker). v.gateway) c.is ∙ sym whose; came = came.among }, subst (λ (x : Task). IsPart x.work came.end o) same came.is)
-  ]
+        let own : w.gateway ≡ gateway_of h = (of.2).gateway in (
+          h,
+          contained hs h (for_does gateways h place task.work (for_hand w h of.1 of.2 inside)),
+          sym (ap turn_by own),
+          came.end,
+          one.0,
+          one.1,
+          record { worker = (c.one).worker; own = (c.one).ends; among = made_among made c.one c.among; is = ap (λ (v : Worker). v.gateway) c.is ∙ own; came = came.among },
+          subst (λ (x : Task). IsPart x.work came.end one.0) same came.is,
+        )
 
-  -- whoever does a task has filled its slot
-  is_filled : (h : Hand) (place : ℕ) (task : Task) → slice_get phase.tasks place ≡ Some task → IsFor gateways h place task.work → IsFilled new (gateway_of h) place
-  is_filled h place task at whose =
-      let t : IsTaskOf gateways phase.tasks h place = record { task = task; is = at; whose = whose } in
-      let k = place_of_member (hands_of gateways phase.tasks) h (staff.enough h place t) in
-      let w = same_place (hands_of gateways phase.tasks) workers k.0 h (sym seated.count) k.1 in
-      let of = seated.each k.0 h w.0 k.1 w.1 in
-      let e = beside_first workers others w.0 done.1 (contains_place workers k.0 w.0 w.1) in
-      let c = comes setting phase.tasks before front after made others w.0 e.0 have left.own e.1 in
-      let whole = one_done setting phase.tasks before front after c.one e.0 c.has (All-contains (λ (x : WorkerEnd). x.came ≡ Ok tt) others e.0 all (second_in_zip workers others w.0 e.0 e.1)) in
-      let long : length (w.0).tasks ≡ length (e.0).parts.items = subst (λ (v : Worker). length v.tasks ≡ length (e.0).parts.items) c.is whole.1 in
-      let o = beside_first (w.0).tasks (e.0).parts.items place long ((of.places).each place t) in
-      subst (λ (g : Option ℕ). IsFilled new g place) of.gateway (taken_in.laid w.0 e.0 place o.0 e.1 o.1)
+    -- and each hand of it has a worker
+    has_worker : (h : Hand) → Contains hs h → (back : Worker × WorkerEnd) × Contains backs back × (turn_of back ≡ turn_by (gateway_of h)) × Contains back.0.tasks place
+    has_worker h inside =
+        let t : IsTaskOf gateways phase.tasks h place = record { task = task; is = at; whose = does_for gateways h place task.work (tested hs h inside) } in
+        let k = place_of_member own_hands h (staff.enough h place t) in
+        let w = same_place own_hands workers k.0 h (sym seated.count) k.1 in
+        let of = seated.each k.0 h w.0 k.1 w.1 in
+        let e = beside_first workers others w.0 done.1 (contains_place workers k.0 w.0 w.1) in
+        ((w.0, e.0), Contains-permutation (zip workers others) backs (w.0, e.0) turns.same e.1, ap turn_by of.gateway, (of.places).each place t)
 
-  -- the ends of those who do a task, and their parts
-  record ByHands (place : ℕ) (task : Task) (hs : List Hand) : Type 0 where
-    own : List End
-    came : AllZip (λ hand end. CameTo workers ends (gateway_of hand) place end) hs own
-    parts : AllZip (IsPart task.work) own (flat_map (λ hand. laid_in (slot_at new (gateway_of hand) place)) hs)
+    -- no two of them have one turn
+    apart : IsDistinct (clash place) backs
+    apart = IsDistinct-IsPermutation (clash place) (clash_flips place) (zip workers others) backs turns.same
+        (IsDistinct-from_apart (clash place) (zip workers others) (λ i j d less below. not_yes (clash place (get_or (zip workers others) i d) (get_or (zip workers others) j d)) (λ yes.
+            let v = get_or (zip workers others) i d in
+            let w = get_or (zip workers others) j d in
+            let here = zip_first_at workers others i d (omega (arith, less, below)) in
+            let there = zip_first_at workers others j d below in
+            let one = same_place workers own_hands i v.0 seated.count here in
+            let other = same_place workers own_hands j w.0 seated.count there in
+            let its = seated.each i one.0 v.0 one.1 here in
+            let others_is = seated.each j other.0 w.0 other.1 there in
+            let both = clash_says place v w yes in
+            no_twice own_hands i j one.0 other.0 less one.1 other.1
+            (one_for gateways place task.work one.0 other.0 (for_hand v.0 one.0 (taken + i + 1) its both.0) (for_hand w.0 other.0 (taken + j + 1) others_is both.1)
+            (turns_alike (gateway_of one.0) (gateway_of other.0) (sym (ap turn_by its.gateway) ∙ both.2 ∙ ap turn_by others_is.gateway))) staff.once)))
 
-  by_hands : (place : ℕ) (task : Task) (hs : List Hand) → slice_get phase.tasks place ≡ Some task → Fors gateways place task.work hs → ByHands place task hs
-  by_hands place task [] at fors = record { own = []; came = tt; parts = tt }
-  by_hands place task (h ∷ hs) at fors =
-      let slot = is_filled h place task at fors.0 in
-      let came = filled (gateway_of h) place task slot.0 at slot.1 in
-      let rest = by_hands place task hs at fors.1 in
-      record {
-        own = came.0 ∷ rest.own;
-        came = (came.1, rest.came);
-        parts = subst (λ (s : Option (Option Part)). AllZip (IsPart task.work) (came.0 ∷ rest.own) (laid_in s ++ flat_map (λ hand. laid_in (slot_at new (gateway_of hand) place)) hs)) (sym slot.1) (came.2, rest.parts);
-      }
+    task_came : (o : Outcome) → IsToldBy task.work (parts_of place backs) o → TaskCame setting.script workers ends place task o
+    task_came o told =
+        let lined = aligned turn_of (λ (h : Hand). turn_by (gateway_of h)) (own_parts place) (Gave task.work place workers ends) (has_place place) backs hs (turns_rise turn_of backs turns.ascend) (hands_rise gateways place task.work) apart
+            (λ back here yes. gave back here (has_it place back yes)) (has_none place)
+            (λ h inside. let b = has_worker h inside in (b.0, b.1, b.2, has_yes place b.0 b.3)) in
+        let by = by_hands task.work place workers ends hs (parts_of place backs) lined in
+        let count : length by.own ≡ length hs = AllZip-long (λ hand end. CameTo workers ends (gateway_of hand) place end) hs by.own by.came in
+        let many : length by.own ≡ length (parts_of place backs) = AllZip-as_long (IsPart task.work) by.own (parts_of place backs) by.are in
+        let few = few_parts task.work gateways place (few_gateways setting.script lawful) in
+        record { own = by.own; came = by.came; is = (parts_of place backs, by.are, told (all_parts task.work gateways place by.own (parts_of place backs) count by.are) (omega (arith, count, many, few))) }
 
-  hands_long : (place : ℕ) (hs : List Hand) (own : List End) → AllZip (λ hand end. CameTo workers ends (gateway_of hand) place end) hs own → length own ≡ length hs
-  hands_long place hs own came = AllZip-long (λ hand end. CameTo workers ends (gateway_of hand) place end) hs own came
-
-  task_came : (place : ℕ) (task : Task) (o : Outcome) → slice_get phase.tasks place ≡ Some task → IsToldBy task.work (parts_at new place task.work) o → TaskCame setting.script workers ends place task o
-  task_came place task o at told =
-      let hs = hands_of_task gateways place task.work in
-      let by = by_hands place task hs at (all_fors gateways place task.work) in
-      let parts = flat_map (λ hand. laid_in (slot_at new (gateway_of hand) place)) hs in
-      let told' : IsToldBy task.work parts o = subst (λ (n : ℕ). IsToldBy task.work (flat_map (λ hand. laid_in (slot_at new (gateway_of hand) place)) (hands_of_task n place task.work)) o) counted told in
-      record { own = by.own; came = by.came; is = (parts, by.parts, told' (all_parts task.work gateways place by.own parts (hands_long place hs by.own by.came) by.parts)) }
-
-  tasks_came : (place : ℕ) (tasks : List Task) (outcomes : List Outcome) → AreTold new place tasks outcomes
-      → ((k : ℕ) (task : Task) → slice_get tasks k ≡ Some task → slice_get phase.tasks (place + k) ≡ Some task)
-      → TasksCame setting.script workers ends place tasks outcomes
-  tasks_came place [] outcomes told each = told
-  tasks_came place (t ∷ tasks) [] told each = told
-  tasks_came place (t ∷ tasks) (o ∷ outcomes) told each =
+  tasks_came : (parts : ℕ → List Part) → ((place : ℕ) → parts place ≡ parts_of place backs) → (place : ℕ) (tasks : List Task) (outcomes : List Outcome) → AreTold parts place tasks outcomes
+      → ((k : ℕ) (task : Task) → slice_get tasks k ≡ Some task → slice_get phase.tasks (place + k) ≡ Some task) → TasksCame setting.script workers ends place tasks outcomes
+  tasks_came parts are place [] outcomes told each = told
+  tasks_came parts are place (t ∷ tasks) [] told each = told
+  tasks_came parts are place (t ∷ tasks) (o ∷ outcomes) told each =
       let first : place + 0 ≡ place = omega arith in (
-        task_came place t o (subst (λ (n : ℕ). slice_get phase.tasks n ≡ Some t) first (each 0 t refl)) told.0,
-        tasks_came (place + 1) tasks outcomes told.1 (λ k task at.
+        task_came place t (subst (λ (n : ℕ). slice_get phase.tasks n ≡ Some t) first (each 0 t refl)) o (subst (λ (l : List Part). IsToldBy t.work l o) (are place) told.0),
+        tasks_came parts are (place + 1) tasks outcomes told.1 (λ k task at.
             let same : place + suc k ≡ place + 1 + k = omega arith in
             subst (λ (n : ℕ). slice_get phase.tasks n ≡ Some task) same (each (suc k) task at)),
       )
 
-  sees : AreSeenBeside before workers sights → AreSeen after seen
-  sees beside place sight is = elim (taken_in.sights_are place sight is) [
-    | inl (w, e, among, gateway, same) ↦
-        let c = comes setting phase.tasks before front after made others w e have left.own among in
+  sees : (sights seen : List Sight) (lists : List TaskParts) → AreTakenIn backs sights seen lists → AreSeenBeside before workers sights → AreSeen after seen
+  sees sights seen lists taken_in beside place sight is = elim (taken_in.sights_are place sight is) [
+    | inl ((w, e), here, gateway, same) ↦
+        let there = among (w, e) here in
+        let c = comes setting phase.tasks before front after made others w e have left.own there in
         let one = c.one in
-        subst (λ (held : Holding). Sees held sight) (sym (c.left place (ap (λ (v : Worker). v.gateway) c.is ∙ gateway))) (subst (Sees one.last) same (seen_by one.last e (All-contains (λ (x : WorkerEnd). x.came ≡ Ok tt) others e all (second_in_zip workers others w e among)) (c.has).sees))
-    | inr (older, none) ↦ subst (λ (held : Holding). Sees held sight) (sym (left.others place none)) (beside place sight older none)
+        subst (λ (held : Holding). Sees held sight) (sym (c.left place (ap (λ (v : Worker). v.gateway) c.is ∙ gateway))) (subst (Sees one.last) same (seen_by one.last e (All-contains (λ (x : WorkerEnd). x.came ≡ Ok tt) others e all (second_in_zip workers others w e there)) (c.has).sees))
+    | inr (older, none) ↦
+        let apart = subst (All (λ (w : Worker). w.gateway ≢ Some place)) (zip_firsts workers others done.1)
+            (All-map (λ (w : Worker). w.gateway ≢ Some place) (λ (b : Worker × WorkerEnd). b.0) (zip workers others) (All-permutation (λ (b : Worker × WorkerEnd). b.0.gateway ≢ Some place) backs (zip workers others) (IsPermutation-sym (zip workers others) backs turns.same) none)) in
+        subst (λ (held : Holding). Sees held sight) (sym (left.others place apart)) (beside place sight older apart)
   ]
 
-  pub gathered : (outcomes : List Outcome) → AreTold new 0 phase.tasks outcomes → AreSeenBeside before workers sights
+  pub gathered : (sights seen : List Sight) (lists : List TaskParts) (outcomes : List Outcome) → AreTakenIn backs sights seen lists → AreTold (parts_at lists) 0 phase.tasks outcomes → AreSeenBeside before workers sights
       → AreDone workers ends × AreSeen after seen × TasksCame setting.script workers ends 0 phase.tasks outcomes
-  gathered outcomes told beside = (
+  gathered sights seen lists outcomes taken_in told beside = (
     done.0,
-    sees beside,
-    tasks_came 0 phase.tasks outcomes told (λ k task at. let same : k ≡ 0 + k = omega arith in subst (λ (n : ℕ). slice_get phase.tasks n ≡ Some task) same at),
+    sees sights seen lists taken_in beside,
+    tasks_came (parts_at lists) taken_in.parts_are 0 phase.tasks outcomes told (λ k task at. let same : k ≡ 0 + k = omega arith in subst (λ (n : ℕ). slice_get phase.tasks n ≡ Some task) same at),
   )

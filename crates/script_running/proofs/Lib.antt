@@ -20,6 +20,7 @@ pub mod GivenParts
 pub mod AllParts
 pub mod Taking
 pub mod Telling
+pub mod Turns
 pub mod Gathered
 pub mod Gathers
 pub mod Closing

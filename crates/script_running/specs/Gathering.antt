@@ -1,11 +1,12 @@
 -- What a phase comes to, once the ends of its workers are laid together.
-use Rattle.std.specs.Prelude.{◌≡◌, ◌≢◌, ◌⊎◌, ℕ, ◌+◌, ◌<◌, List, [], ◌∷◌, length, All, Contains, Option, Some, None, IsSome, Result, Ok, Err, slice_get}
+use Rattle.std.specs.Prelude.{◌≡◌, ◌≢◌, ◌⊎◌, ℕ, ◌+◌, ◌<◌, ◌^◌, ◌==◌, List, [], ◌∷◌, length, All, Contains, Option, Some, None, Result, Ok, Err, if◌then◌else◌, slice_get}
 use Rattle.std.specs.List.{flat_map, zip}
+use Rattle.std.specs.List.Sorted.{IsNonDecreasingBy, IsPermutation}
 use Rattle.world_core.specs.declared.entry.Entry.{Entry}
 use Rattle.script_core.specs.Lawful.{IsLawfulScript}
 use Rattle.script_core.specs.Workers.{workers_of}
 use Rattle.script_core.specs.declared.script.Script.{Script}
-use Rattle.script_workers.specs.Hands.{gateway_count, gateway_of, hands_of_task}
+use Rattle.script_workers.specs.Hands.{gateway_count}
 use Rattle.script_workers.specs.declared.phase.Phase.{Phase}
 use Rattle.script_workers.specs.declared.task.Task.{Task}
 use Rattle.script_workers.specs.declared.work.Work.{Work}
@@ -21,10 +22,9 @@ use Rattle.script_running.specs.Outcomes.{AreAllParts, IsOutcomeOf, Outcome, Par
 use Rattle.script_running.specs.Reporting.{AddsTo}
 use Rattle.script_running.specs.Sights.{Sees, no_sight}
 use Rattle.script_running.specs.declared.came.Broken.{Broken}
-use Rattle.script_running.specs.declared.came.Broken.TheVariants as broken
-use Rattle.script_running.specs.declared.gathering.Column.{Column}
-use Rattle.script_running.specs.declared.gathering.Slots.{Slots}
+use Rattle.script_running.specs.declared.gathering.CameBack.{CameBack}
 use Rattle.script_running.specs.declared.gathering.Staffed.{Staffed}
+use Rattle.script_running.specs.declared.gathering.TaskParts.{TaskParts}
 use Rattle.script_running.specs.declared.progress.Progress.{Progress}
 use Rattle.script_running.specs.declared.sight.Sight.{Sight}
 use Rattle.script_running.specs.declared.worker.WorkerEnd.{WorkerEnd}
@@ -85,58 +85,6 @@ pub record IsTaken (gateway : Option ℕ) (own : Sight) (old new : List Sight) :
 
 -- ---- behind it
 
--- so many empty slots
-pub record AreEmpty (count : ℕ) (column : Column) : Type 0 where
-  pub wide : length column.slots.items ≡ count
-  pub empty : All (λ slot. slot ≡ None) column.slots.items
-
--- empty slots for so many tasks, for those of no gateway and for the workers of so many gateways
-pub record AreAllEmpty (tasks gateways : ℕ) (slots : Slots) : Type 0 where
-  pub alone : AreEmpty tasks slots.alone
-  pub wide : length slots.gateways.items ≡ gateways
-  pub columns : All (AreEmpty tasks) slots.gateways.items
-
-abbrev pub slot_in : Option Column → ℕ → Option (Option Part)
-slot_in None place = None
-slot_in (Some column) place = slice_get column.slots.items place
-
--- the slot of a worker, by its gateway, for the task at a place
-abbrev pub slot_at : Slots → Option ℕ → ℕ → Option (Option Part)
-slot_at slots None place = slot_in (Some slots.alone) place
-slot_at slots (Some gateway) place = slot_in (slice_get slots.gateways.items gateway) place
-
--- there is such a slot
-abbrev pub HasSlot : Slots → Option ℕ → ℕ → Type 0
-HasSlot slots gateway place = IsSome (slot_at slots gateway place)
-
--- and it has a part
-abbrev pub IsFilled : Slots → Option ℕ → ℕ → Type 0
-IsFilled slots gateway place = (one : Part) × (slot_at slots gateway place ≡ Some (Some one))
-
--- the slot of a place has a part
-abbrev pub HasPart : List (Option Part) → ℕ → Type 0
-HasPart slots place = (one : Part) × (slice_get slots place ≡ Some (Some one))
-
--- The parts were laid at these places, as far as there are any.
-pub record AreLaid (places : List ℕ) (parts : List Part) (old new : List (Option Part)) : Type 0 where
-  pub wide : length new ≡ length old
-  pub origin : (place : ℕ) (one : Part) → slice_get new place ≡ Some (Some one) → (slice_get old place ≡ Some (Some one)) ⊎ Contains (zip places parts) (place, one)
-  pub kept : (place : ℕ) → HasPart old place → HasPart new place
-  pub laid : (place : ℕ) (one : Part) → Contains (zip places parts) (place, one) → HasPart new place
-
--- no slot has come or gone
-pub record HaveSameSlots (old new : Slots) : Type 0 where
-  pub wide : length new.gateways.items ≡ length old.gateways.items
-  pub each : (gateway : Option ℕ) (place : ℕ) → HasSlot old gateway place → HasSlot new gateway place
-
--- A worker of this gateway, or of none, had its parts laid at the places of their tasks.
-pub record IsLaid (gateway : Option ℕ) (places : List ℕ) (parts : List Part) (old new : Slots) : Type 0 where
-  pub same : HaveSameSlots old new
-  pub origin : (other : Option ℕ) (place : ℕ) (one : Part) → slot_at new other place ≡ Some (Some one)
-      → (slot_at old other place ≡ Some (Some one)) ⊎ ((other ≡ gateway) × Contains (zip places parts) (place, one))
-  pub kept : (other : Option ℕ) (place : ℕ) → IsFilled old other place → IsFilled new other place
-  pub laid : (place : ℕ) (one : Part) → Contains (zip places parts) (place, one) → IsFilled new gateway place
-
 -- what broke workers off, one of whom met the full journal just where that is said
 abbrev pub HaveCome : List WorkerEnd → Result (Unit {0}) Broken → Type 0
 HaveCome ends (Ok done) = All (λ (end : WorkerEnd). end.came ≡ Ok tt) ends
@@ -149,47 +97,63 @@ pub record IsWorse (one other both : Result (Unit {0}) Broken) : Type 0 where
   pub first : one ≡ Err broken.Full → both ≡ Err broken.Full
   pub second : other ≡ Err broken.Full → both ≡ Err broken.Full
 
+-- a worker, and what it came back with
+abbrev pub back_of : CameBack → Worker × WorkerEnd
+back_of back = (back.worker.now, back.end)
+
+abbrev pub turn_by : Option ℕ → ℕ
+turn_by None = 0
+turn_by (Some gateway) = gateway + 1
+
+-- those of no gateway come first, then those of gateways in the order of these
+abbrev pub turn_of : Worker × WorkerEnd → ℕ
+turn_of back = turn_by back.0.gateway
+
+-- Workers with what they came back with, in the order of their turns.
+pub record AreInTurn (workers : List Worker) (ends : List WorkerEnd) (backs : List (Worker × WorkerEnd)) : Type 0 where
+  pub same : IsPermutation (zip workers ends) backs
+  pub ascend : IsNonDecreasingBy turn_of backs
+
+-- the parts that are paired with a place
+abbrev pub paired_with : ℕ → List (ℕ × Part) → List Part
+paired_with place [] = []
+paired_with place (one ∷ pairs) = if one.0 == place then one.1 ∷ paired_with place pairs else paired_with place pairs
+
+-- a worker's parts of the task at a place
+abbrev pub own_parts : ℕ → Worker × WorkerEnd → List Part
+own_parts place back = paired_with place (zip back.0.tasks back.1.parts.items)
+
+-- the parts of the task at a place, by these workers in their order
+abbrev pub parts_of : ℕ → List (Worker × WorkerEnd) → List Part
+parts_of place backs = flat_map (own_parts place) backs
+
+abbrev pub in_them : Option TaskParts → List Part
+in_them None = []
+in_them (Some own) = own.parts.items
+
+-- the parts that lie at a place
+abbrev pub parts_at : List TaskParts → ℕ → List Part
+parts_at lists place = in_them (slice_get lists place)
+
 -- a gateway, if one is named, sees by this, and the others by what they did
 abbrev pub IsSeen : Option ℕ → Sight → List Sight → List Sight → Type 0
 IsSeen gateway own old new = (place : ℕ) (sight : Sight) → slice_get new place ≡ Some sight
     → ((gateway ≡ Some place) × (own ≡ sight)) ⊎ ((slice_get old place ≡ Some sight) × (gateway ≢ Some place))
 
--- Workers were taken in. A gateway sees by that with which a worker of its own came back, or as before, if it has none; and each
--- part lies at the place of its task.
-pub record AreTakenIn (workers : List Worker) (ends : List WorkerEnd) (sights seen : List Sight) (old new : Slots) : Type 0 where
-  pub long : length seen ≡ length sights
-  pub same : HaveSameSlots old new
+-- Workers were taken in. A gateway sees by that with which a worker of its own came back, or as before, if it has none; and their parts
+-- of each task lie at its place, in their order.
+pub record AreTakenIn (backs : List (Worker × WorkerEnd)) (sights seen : List Sight) (lists : List TaskParts) : Type 0 where
   pub sights_are : (place : ℕ) (sight : Sight) → slice_get seen place ≡ Some sight
-      → ((w : Worker) × (e : WorkerEnd) × Contains (zip workers ends) (w, e) × (w.gateway ≡ Some place) × (e.sight ≡ sight))
-      ⊎ ((slice_get sights place ≡ Some sight) × All (λ (w : Worker). w.gateway ≢ Some place) workers)
-  pub origin : (gateway : Option ℕ) (place : ℕ) (one : Part) → slot_at new gateway place ≡ Some (Some one)
-      → (slot_at old gateway place ≡ Some (Some one)) ⊎ ((w : Worker) × (e : WorkerEnd) × Contains (zip workers ends) (w, e) × (gateway ≡ w.gateway) × Contains (zip w.tasks e.parts.items) (place, one))
-  pub kept : (gateway : Option ℕ) (place : ℕ) → IsFilled old gateway place → IsFilled new gateway place
-  pub laid : (w : Worker) (e : WorkerEnd) (place : ℕ) (one : Part) → Contains (zip workers ends) (w, e) → Contains (zip w.tasks e.parts.items) (place, one) → IsFilled new w.gateway place
-
--- what was laid in a slot
-abbrev pub laid_in : Option (Option Part) → List Part
-laid_in None = []
-laid_in (Some None) = []
-laid_in (Some (Some one)) = one ∷ []
-
--- the parts of those who do the task at a place, in their order
-abbrev pub parts_at : Slots → ℕ → Work → List Part
-parts_at slots place work =
-    flat_map (λ hand. laid_in (slot_at slots (gateway_of hand) place)) (hands_of_task (length slots.gateways.items) place work)
+      → ((back : Worker × WorkerEnd) × Contains backs back × (back.0.gateway ≡ Some place) × (back.1.sight ≡ sight))
+      ⊎ ((slice_get sights place ≡ Some sight) × All (λ (back : Worker × WorkerEnd). back.0.gateway ≢ Some place) backs)
+  pub parts_are : (place : ℕ) → parts_at lists place ≡ parts_of place backs
 
 -- A task's outcome, where these are the parts of all who did it.
 abbrev pub IsToldBy : Work → List Part → Outcome → Type 0
-IsToldBy work parts o = AreAllParts work parts → IsOutcomeOf work parts o
+IsToldBy work parts o = AreAllParts work parts → length parts < 2 ^ 32 → IsOutcomeOf work parts o
 
--- the outcomes of tasks from a place on
-abbrev pub AreTold : Slots → ℕ → List Task → List Outcome → Type 0
-AreTold slots place [] outcomes = outcomes ≡ []
-AreTold slots place (task ∷ tasks) [] = ⊥
-AreTold slots place (task ∷ tasks) (o ∷ outcomes) =
-    IsToldBy task.work (parts_at slots place task.work) o × AreTold slots (place + 1) tasks outcomes
-
--- the slots for the task at a place may have been emptied, and no others
-pub record IsTakenAt (place : ℕ) (old new : Slots) : Type 0 where
-  pub wide : length new.gateways.items ≡ length old.gateways.items
-  pub others : (gateway : Option ℕ) (other : ℕ) → other ≢ place → slot_at new gateway other ≡ slot_at old gateway other
+-- the outcomes of tasks from a place on, by the parts of each
+abbrev pub AreTold : (ℕ → List Part) → ℕ → List Task → List Outcome → Type 0
+AreTold parts place [] outcomes = outcomes ≡ []
+AreTold parts place (task ∷ tasks) [] = ⊥
+AreTold parts place (task ∷ tasks) (o ∷ outcomes) = IsToldBy task.work (parts place) o × AreTold parts (place + 1) tasks outcomes

@@ -20,19 +20,18 @@ pub fn outcome_of<W: CompareWay>(
     parts: Vec<Part>,
     way: &W,
 ) -> Result<Outcome, NoMemory>
-    requires few { length parts.items < 2 ^ 32 }
     requires way { W.can_compare way.now }
-    ensures whole { (work : Work) → AreAllParts work parts.items
+    ensures whole { (work : Work) → AreAllParts work parts.items → length parts.items < 2 ^ 32
         → IfOk result (IsOutcomeOf work parts.items) }
 {
     let mut given = Given::new(alloc);
-    let mut gateway = 0;
+    let mut gateway = 0u32;
     for part in parts {
         match query_part(part) {
             Ok(own) => given.add(gateway, own)?,
             Err(whole) => return Ok(whole),
         }
-        gateway += 1;
+        gateway = gateway.saturating_add(1);
     }
     Ok(Came::Query(given.finish(way)?))
 }

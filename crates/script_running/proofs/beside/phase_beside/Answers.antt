@@ -94,9 +94,6 @@ gather-came-requires-clause-gateways g c =
     let are = workers_here c.args.run.now.script.now c.args.place c.splits.result c.in-Ok.staff c.members-workers.result.now c.members-workers.ensures c.in-Ok.ensures (c.splits.ensures ∙ c.requires.seats) in
     within_gateways c.args.run.now.script.now c.requires.lawful c.args.place c.args.phase.now c.requires.at c.members-workers.result.now (length c.jobs_of.new.sights.items) are (c.jobs_of.ensures.each ∙ c.requires.reached.gone.each)
 
-pub gather-came-requires-clause-few : goal.gather-came-requires-clause-few
-gather-came-requires-clause-few g c = (let each = c.jobs_of.ensures.each in let gone = c.requires.reached.gone.each in let few = c.requires.lawful.few_gateways in omega (arith, each, gone, few))
-
 pub gather-came-requires-clause-places : goal.gather-came-requires-clause-places
 gather-came-requires-clause-places g c =
     let are = workers_here c.args.run.now.script.now c.args.place c.splits.result c.in-Ok.staff c.members-workers.result.now c.members-workers.ensures c.in-Ok.ensures (c.splits.ensures ∙ c.requires.seats) in

@@ -1,9 +1,11 @@
-use Rattle.script_running.proofs.Telling.{AreLeftFrom, ToldTo}
+use Rattle.std.proofs.Common.{◌≡◌, length}
+use Rattle.script_running.specs.Gathering.{parts_at}
+use Rattle.script_running.proofs.Telling.{ToldTo}
 use Rattle.script_running.proofs.gathering.tell.Given as goal
 
--- the tasks so far are told, and the slots of the others are as they were
-abbrev pub invariant-loop-place : goal.invariant-loop-place
-invariant-loop-place g l = record {
-  told : ToldTo g.P.Report.tells l.script l.fn.slots l.tasks l.initial.report l.place l.report;
-  left : AreLeftFrom l.place l.fn.slots l.slots;
+-- the tasks so far are told
+abbrev pub invariant-loop-own : goal.invariant-loop-own
+invariant-loop-own g l = record {
+  place : l.place ≡ length l.yielded;
+  told : ToldTo g.P.Report.tells l.script (parts_at l.fn.lists.items) l.tasks l.initial.report l.place l.report;
 }
