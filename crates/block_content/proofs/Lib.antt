@@ -17,4 +17,5 @@ pub mod ContentTests
 pub mod SpanTests
 pub mod FoundPlaces
 pub mod NamedBytes
+pub mod PlacesOnce
 pub mod BytesRead

@@ -1,5 +1,6 @@
 -- How many bytes of chunks a check reads, by the lengths that stand before their data.
-use Rattle.std.specs.Prelude.{ℕ, ◌+◌, ◌*◌, ◌≤◌, nat_le, not, ◌==◌, if◌then◌else◌, Bool, true, List, [], ◌∷◌, length, drop, sum_by, slice_get, Option, None, Some}
+use Rattle.std.specs.Prelude.{ℕ, ◌*◌, ◌/◌, ◌%◌, ◌^◌, ◌≤◌, nat_le, ◌==◌, if◌then◌else◌, Bool, List, [], ◌∷◌, length, drop, sum_by, slice_get, Option, None, Some}
+use Rattle.std.specs.List.{list_any}
 use Rattle.wire_bytes.specs.Position.{start}
 use Rattle.wire_bytes.specs.Fields.{uvarint_at}
 use Rattle.index_parts.specs.Parts.{told}
@@ -26,24 +27,28 @@ told_in (Some segment) offset = told_behind (drop offset segment)
 abbrev pub told_bytes : List (List ℕ) → ChunkPlace → ℕ
 told_bytes segments place = told_in (slice_get segments place.segment) place.offset
 
--- whether a place is another than that of the chunk before it
-abbrev pub comes_anew : Option ℕ → ℕ → Bool
-comes_anew None number = true
-comes_anew (Some before) number = not (before == number)
+-- the same at the place of a number
+abbrev pub told_there : List (List ℕ) → ℕ → ℕ
+told_there segments number = told_in (slice_get segments (number / 2 ^ 32)) (number % 2 ^ 32)
 
-abbrev pub bytes_anew : List (List ℕ) → Option ℕ → ChunkPlace → ℕ
-bytes_anew segments before place = if comes_anew before (place_number place) then told_bytes segments place else 0
+-- whether another chunk stands at the same place
+abbrev pub stands_with : ChunkPlace → ChunkPlace → Bool
+stands_with place other = place_number place == place_number other
 
--- The chunks are read in this order, and one that stands at the place of the one before it is not read again.
-unfoldable pub read_bytes : List (List ℕ) → Option ℕ → List ChunkPlace → ℕ
-read_bytes segments before [] = 0
-read_bytes segments before (place ∷ places) = bytes_anew segments before place + read_bytes segments (Some (place_number place)) places
+-- one chunk of each place: the last of those that stand there
+unfoldable pub each_once : List ChunkPlace → List ChunkPlace
+each_once [] = []
+each_once (place ∷ places) = if list_any (stands_with place) places then each_once places else place ∷ each_once places
+
+-- The data at each place is read once, however many chunks stand there.
+abbrev pub read_bytes : List (List ℕ) → List ChunkPlace → ℕ
+read_bytes segments places = sum_by (told_bytes segments) (each_once places)
 
 abbrev pub reads_few : List (List ℕ) → List IndexSeries → Bool
-reads_few segments indexed = nat_le (counted (read_bytes segments None (places_of indexed))) (counted (chunk_share * sum_by length segments))
+reads_few segments indexed = nat_le (counted (read_bytes segments (places_of indexed))) (counted (chunk_share * sum_by length segments))
 
 -- What is read of chunks is little for the segments' bytes.
 pub record ReadsFew (files : BlockFiles) : Type 0 where
   pub indexed : List IndexSeries
   pub index_is : IsIndex files.index indexed
-  pub bytes : counted (read_bytes files.segments None (places_of indexed)) ≤ counted (chunk_share * sum_by length files.segments)
+  pub bytes : counted (read_bytes files.segments (places_of indexed)) ≤ counted (chunk_share * sum_by length files.segments)

@@ -22,7 +22,7 @@ pub enum CheckRefusal {
     /// The block holds samples of others than itself.
     SourcesNotSelf,
     Downsampled,
-    /// A file has more than 67,108,864 bytes.
+    /// A file has more than 67,108,864 bytes, or is a segment with which the segments together have more than 1,073,741,824.
     TooLarge(Key),
     BadIndex(IndexRefusal),
     /// The index has no series.

@@ -68,7 +68,8 @@ fn count_some(
     if indexed.is_empty() {
         return Err(CheckRefusal::EmptyBlock);
     }
-    if !reads_few(segments, bytes, indexed) {
+    let few = reads_few(alloc, segments, bytes, indexed)?;
+    if !few {
         return Err(CheckRefusal::NamesTooMuch);
     }
     let counts = count_all(alloc, meta, segments, indexed)?;

@@ -1,5 +1,5 @@
 //! What is found at the places where a block's chunks stand. Many chunks may stand at one place: its data is read once.
-ghost use Rattle.std.specs.Prelude.{◌≡◌, ◌+◌, ◌*◌, ℕ, List, FitsSigned, IfOk, IfErr, IfSome, OnOk};
+ghost use Rattle.std.specs.Prelude.{◌≡◌, ◌+◌, ◌*◌, ◌^◌, ◌<◌, ℕ, List, FitsSigned, IfOk, IfErr, IfSome, OnOk};
 ghost use Rattle.std.specs.BTreeMap.{get};
 ghost use Rattle.std.specs.Int.{w64};
 ghost use Rattle.std.specs.Ordering.{nat_cmp};
@@ -69,7 +69,8 @@ pub(crate) fn first_time(meta: &Meta, samples: &[Sample]) -> Option<i64>
 
 /// The number of a place, which no other place has.
 pub(crate) fn place_number(place: ChunkPlace) -> u64
-    ensures { result ≡ place_number place }
+    ensures number { result ≡ place_number place }
+    ensures fits { place.offset < 2 ^ 32 }
 {
     u64::from(place.segment) * 0x1_0000_0000 + u64::from(place.offset)
 }

@@ -1,14 +1,16 @@
 //! How many bytes of chunks a check reads, by their lengths alone: it is told before any chunk is tested, as chunks may lie within
 //! one another, and then reading each of them would take far longer than reading the segments.
-ghost use Rattle.std.specs.Prelude.{◌≡◌, ◌*◌, nat_le, None, drop, sum_by, length};
+ghost use Rattle.std.specs.Prelude.{◌≡◌, ◌*◌, ◌^◌, ◌<◌, ℕ, List, map, nat_le, drop, sum_by, length, IfOk, OnOk};
+ghost use Rattle.std.specs.List.{AllByRecursion};
 ghost use Rattle.block_content.specs.Named.{counted, chunk_share};
-ghost use Rattle.block_content.specs.StoredPlaces.{places_of};
-ghost use Rattle.block_content.specs.ReadBytes.{if_left, told_behind, told_bytes, comes_anew, bytes_anew, read_bytes};
+ghost use Rattle.block_content.specs.StoredPlaces.{place_number, places_of};
+ghost use Rattle.block_content.specs.ReadBytes.{if_left, told_behind, told_there, read_bytes};
 
 use crate::naming::CHUNK_SHARE;
 use crate::places::place_number;
-use index_parts::ChunkPlace;
+use base::NoMemory;
 use index_v2::LentSeries;
+use std::alloc::Global;
 use wire_bytes::{Blob, Cursor};
 
 /// A length, where so many bytes are left.
@@ -36,55 +38,65 @@ fn told_at(segment: &[u8], offset: u64) -> u64
     told_behind(&segment[offset as usize..])
 }
 
-fn told_bytes(segments: &[Blob], place: ChunkPlace) -> u64
-    ensures { result ≡ told_bytes segments.now place }
+/// The same at the place of a number.
+fn told_there(segments: &[Blob], number: u64) -> u64
+    ensures { result ≡ told_there segments.now number }
 {
-    match segments.get(place.segment as usize) {
-        Some(segment) => told_at(segment.bytes(), u64::from(place.offset)),
+    match segments.get((number / 0x1_0000_0000) as usize) {
+        Some(segment) => told_at(segment.bytes(), number % 0x1_0000_0000),
         None => 0,
     }
 }
 
-/// Whether a place is another than that of the chunk before it.
-fn comes_anew(before: Option<u64>, number: u64) -> bool
-    ensures { result ≡ comes_anew before number }
-{
-    match before {
-        None => true,
-        Some(before) => before != number,
-    }
-}
-
-/// How many bytes are read at a place behind the one of this number.
-fn bytes_anew(segments: &[Blob], before: Option<u64>, place: ChunkPlace) -> u64
-    ensures { result ≡ bytes_anew segments.now before place }
-{
-    if comes_anew(before, place_number(place)) {
-        told_bytes(segments, place)
-    } else {
-        0
-    }
-}
-
-/// How many bytes are read of the chunks of all series.
-fn read_bytes(segments: &[Blob], indexed: &[LentSeries<'_>]) -> u64
-    ensures { result ≡ counted (read_bytes segments.now None (places_of indexed.now)) }
+/// How many bytes of data the lengths at places tell.
+fn told_bytes(segments: &[Blob], numbers: &[u64]) -> u64
+    ensures { result ≡ counted (sum_by (told_there segments.now) numbers.now) }
 {
     let mut bytes = 0u64;
-    let mut before = None;
-    for one in indexed {
-        for place in one.chunks() {
-            bytes = bytes.saturating_add(bytes_anew(segments, before, *place));
-            before = Some(place_number(*place));
-        }
+    for number in numbers {
+        bytes = bytes.saturating_add(told_there(segments, *number));
     }
     bytes
 }
 
-/// Whether these are few for so many bytes of segments.
-pub(crate) fn reads_few(segments: &[Blob], segment_bytes: u64, indexed: &[LentSeries<'_>]) -> bool
-    ensures { result ≡ nat_le (counted (read_bytes segments.now None (places_of indexed.now)))
-        (counted (chunk_share * segment_bytes)) }
+/// The numbers of the places of all chunks.
+fn all_numbers(alloc: Global, indexed: &[LentSeries<'_>]) -> Result<Vec<u64>, NoMemory>
+    ensures numbers { IfOk result (λ numbers. numbers.items
+        ≡ map place_number (places_of indexed.now)) }
+    ensures fits { OnOk result
+        (AllByRecursion (λ place. place.offset < 2 ^ 32) (places_of indexed.now)) }
 {
-    read_bytes(segments, indexed) <= segment_bytes.saturating_mul(CHUNK_SHARE)
+    let mut numbers: Vec<u64> = Vec::new(alloc);
+    for one in indexed {
+        for place in one.chunks() {
+            numbers.push(place_number(*place))?;
+        }
+    }
+    Ok(numbers)
+}
+
+/// The same, each once, though many chunks stand at one place.
+fn numbers_once(alloc: Global, indexed: &[LentSeries<'_>]) -> Result<Vec<u64>, NoMemory>
+    ensures { IfOk result (λ numbers. (segments : List (List ℕ))
+        → sum_by (told_there segments) numbers.items ≡ read_bytes segments (places_of indexed.now)) }
+{
+    let mut numbers = all_numbers(alloc, indexed)?;
+    numbers.sort_unstable();
+    numbers.dedup();
+    Ok(numbers)
+}
+
+/// Whether few bytes are read of chunks, for so many of segments.
+pub(crate) fn reads_few(
+    alloc: Global,
+    segments: &[Blob],
+    segment_bytes: u64,
+    indexed: &[LentSeries<'_>],
+) -> Result<bool, NoMemory>
+    ensures { IfOk result (λ few. few
+        ≡ nat_le (counted (read_bytes segments.now (places_of indexed.now)))
+        (counted (chunk_share * segment_bytes))) }
+{
+    let numbers = numbers_once(alloc, indexed)?;
+    Ok(told_bytes(segments, &numbers) <= segment_bytes.saturating_mul(CHUNK_SHARE))
 }

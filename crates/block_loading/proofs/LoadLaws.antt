@@ -1,5 +1,5 @@
 -- Loading a block: what the functions give is what the relations say.
-use Rattle.std.proofs.Common.{◌≡◌, ℕ, List, length, Ok, Err, refl, sym, ap, subst, ◌∙◌, arith, inl, inr}
+use Rattle.std.proofs.Common.{◌≡◌, ℕ, ◌+◌, List, length, Ok, Err, refl, sym, ap, subst, ◌∙◌, arith, inl, inr}
 use Rattle.std.specs.Prelude.{◌≢◌}
 use Rattle.base.specs.Reading.{refused_as}
 use Rattle.base.proofs.Binds.{bind_ok, bind_err, ok_is, refused_as_ok, refused_as_err}
@@ -17,12 +17,12 @@ use Rattle.block_content.specs.ContentReading.{index_at, refused_index}
 use Rattle.block_content.specs.declared.check_refusal.CheckRefusal.{CheckRefusal}
 use Rattle.block_content.specs.declared.check_refusal.CheckRefusal.TheVariants.{NoFile, BadMeta, UlidDiffers, NotLevelOne, SourcesNotSelf, Downsampled, TooLarge, BadIndex, EmptyBlock, BadChunk, OutsideRange, Repeated, NamesTooMuch, NoMemory}
 use Rattle.bucket_core.specs.Contents.{Contents}
-use Rattle.block_loading.specs.Loading.{HasFile, HasMeta, HasIndex, HasSegments, last_segment, IsLoaded, ReachesSegment, Reaches, RefusesLoad}
-use Rattle.block_loading.specs.LoadReading.{refused_block, refused_meta, file_at, meta_at, index_in, segments_at, BlockParts, parts_of, load_at}
+use Rattle.block_loading.specs.Loading.{HasFile, HasMeta, HasIndex, HasSegments, last_segment, IsLoaded, ReachesSegment, Reaches, PassesTogether, RefusesLoad}
+use Rattle.block_loading.specs.LoadReading.{refused_block, refused_meta, file_at, meta_at, index_in, segment_at, segments_at, BlockParts, parts_of, load_at}
 use Rattle.block_loading.specs.declared.load_refusal.LoadRefusal.{LoadRefusal}
 use Rattle.block_loading.specs.declared.load_refusal.LoadRefusal.TheVariants.{Refused}
 use Rattle.block_loading.proofs.FileLaws.{RefusesFile, file_found, file_again, file_refused, file_absent, file_large}
-use Rattle.block_loading.proofs.SegmentLaws.{segments_found, segments_again, segments_refused, segments_refuses}
+use Rattle.block_loading.proofs.SegmentLaws.{IsOver, size_of, segment_unread, segment_over, segment_refused, segments_found, segments_again, same_segments, segments_refused, segments_refuses}
 use Rattle.block_loading.proofs.LoadSteps.{no_meta, no_index, without_meta}
 
 -- ---- refusals as the block's
@@ -125,7 +125,7 @@ module _ (told : Contents) (ulid : ℕ) where
 
   of_file : (key : Key) (refusal : CheckRefusal) → Reaches told ulid key → RefusesFile told key refusal → RefusesLoad told ulid refusal
   of_file key refusal reached (inl (same, none)) = subst (RefusesLoad told ulid) (sym same) (reached, none)
-  of_file key refusal reached (inr (same, large)) = subst (RefusesLoad told ulid) (sym same) (reached, large)
+  of_file key refusal reached (inr (same, large)) = subst (RefusesLoad told ulid) (sym same) (reached, inl large)
 
   unread : (key : Key) (refusal : CheckRefusal) → Reaches told ulid key → file_at told key ≡ Err (Refused refusal) → RefusesLoad told ulid refusal
   unread key refusal reached h =
@@ -160,7 +160,7 @@ module _ (told : Contents) (ulid : ℕ) where
             ]
       ]
 
-  segments_stop : (meta : MetaFields) (index : List ℕ) (indexed : List IndexSeries) (refusal : CheckRefusal) → HasMeta told ulid meta → HasIndex told ulid index indexed → segments_at told ulid 1 (last_segment indexed) ≡ Err (Refused refusal) → RefusesLoad told ulid refusal
+  segments_stop : (meta : MetaFields) (index : List ℕ) (indexed : List IndexSeries) (refusal : CheckRefusal) → HasMeta told ulid meta → HasIndex told ulid index indexed → segments_at told ulid 1 0 (last_segment indexed) ≡ Err (Refused refusal) → RefusesLoad told ulid refusal
   segments_stop meta index indexed refusal has is h =
       let why = segments_refused told ulid (last_segment indexed) (Refused refusal) h in
       let reached : ReachesSegment told ulid why.0 = record {
@@ -175,7 +175,20 @@ module _ (told : Contents) (ulid : ℕ) where
         before_are = why.2;
         all_before = why.3;
       } in
-      unread (Segment ulid why.0) refusal (refl, reached) why.5
+      elim (segment_refused told (Segment ulid why.0) (size_of why.1) (Refused refusal) why.5) [
+        | inl refused ↦ unread (Segment ulid why.0) refusal (refl, reached) refused
+        | inr (over, said) ↦
+            let together : PassesTogether told ulid (Segment ulid why.0) = record {
+              before = why.1;
+              before_are = why.2;
+              key_is = ap (λ (n : ℕ). Segment ulid n) (sym why.3);
+              bytes = over.bytes;
+              file = over.file;
+              much = over.much;
+            } in
+            let is : RefusesLoad told ulid (TooLarge (Segment ulid why.0)) = ((refl, reached), inr together) in
+            subst (RefusesLoad told ulid) (sym (refused_is refusal (TooLarge (Segment ulid why.0)) said)) is
+      ]
 
   pub load_refused : (refusal : CheckRefusal) → load_at told ulid ≡ Err (Refused refusal) → RefusesLoad told ulid refusal
   unfolding load_at
@@ -201,10 +214,10 @@ module _ (told : Contents) (ulid : ℕ) where
   unfolding load_at
   stops_at_index meta e has h = rw (meta_again meta has, h) refl
 
-  stops_at_segment : (number : ℕ) (e : LoadRefusal) → ReachesSegment told ulid number → file_at told (Segment ulid number) ≡ Err e → load_at told ulid ≡ Err e
+  stops_at_segment : (number : ℕ) (e : LoadRefusal) → (reached : ReachesSegment told ulid number) → segment_at told (Segment ulid number) (size_of reached.before) ≡ Err e → load_at told ulid ≡ Err e
   unfolding load_at
   stops_at_segment number e reached h =
-      let refused : segments_at told ulid 1 (last_segment reached.indexed) ≡ Err e = segments_refuses told ulid (last_segment reached.indexed) number reached.before e reached.before_are reached.all_before reached.named h in
+      let refused : segments_at told ulid 1 0 (last_segment reached.indexed) ≡ Err e = segments_refuses told ulid (last_segment reached.indexed) number reached.before e reached.before_are reached.all_before reached.named h in
       rw (meta_again reached.meta reached.meta_is, index_again reached.index reached.indexed reached.index_is, refused) refl
 
   bad_meta : (text : List ℕ) (refusal : MetaRefusal) → HasFile told (Meta ulid) text → meta_of_text text ≡ Err refusal → refusal ≢ meta.NoMemory → meta_at told ulid ≡ Err (Refused (BadMeta refusal))
@@ -219,12 +232,30 @@ module _ (told : Contents) (ulid : ℕ) where
   stops_at : (key : Key) (e : LoadRefusal) → Reaches told ulid key → file_at told key ≡ Err e → load_at told ulid ≡ Err e
   stops_at (Meta owner) e same h = without_meta told ulid e (no_meta told ulid e (ap (λ (u : ℕ). file_at told (Meta u)) (sym same) ∙ h))
   stops_at (Index owner) e (same, (meta, has)) h = stops_at_index meta e has (no_index told ulid e (ap (λ (u : ℕ). file_at told (Index u)) (sym same) ∙ h))
-  stops_at (Segment owner number) e (same, reached) h = stops_at_segment number e reached (ap (λ (u : ℕ). file_at told (Segment u number)) (sym same) ∙ h)
+  stops_at (Segment owner number) e (same, reached) h =
+      stops_at_segment number e reached (segment_unread told (Segment ulid number) (size_of reached.before) e (ap (λ (u : ℕ). file_at told (Segment u number)) (sym same) ∙ h))
   stops_at (Mark owner) e never h = absurd never
+
+  -- a segment with which all pass the limit stops it
+  stops_over : (key : Key) → Reaches told ulid key → PassesTogether told ulid key → load_at told ulid ≡ Err (Refused (TooLarge key))
+  stops_over (Meta owner) reached over = absurd (let is = over.key_is in cc)
+  stops_over (Index owner) reached over = absurd (let is = over.key_is in cc)
+  stops_over (Mark owner) never over = absurd never
+  stops_over (Segment owner number) (same, reached) over =
+      let is = over.key_is in
+      let at : number ≡ length over.before + 1 = cc in
+      let many : length reached.before ≡ length over.before = let all = reached.all_before in omega (arith, all, at) in
+      let before : reached.before ≡ over.before = same_segments told ulid reached.before over.before reached.before_are over.before_are many in
+      let file : HasFile told (Segment ulid number) over.bytes = subst (λ (u : ℕ). HasFile told (Segment u number) over.bytes) same over.file in
+      let much = over.much in
+      let passes : IsOver told (Segment ulid number) (size_of reached.before) = record { bytes = over.bytes; file = file; much = omega (arith, much, ap size_of before) } in
+      stops_at_segment number (Refused (TooLarge (Segment owner number))) reached
+      (segment_over told (Segment ulid number) (size_of reached.before) passes ∙ ap (λ (u : ℕ). Err (Refused (TooLarge (Segment u number)))) (sym same))
 
   pub load_refuses : (refusal : CheckRefusal) → RefusesLoad told ulid refusal → load_at told ulid ≡ Err (Refused refusal)
   load_refuses (NoFile key) (reached, none) = stops_at key (Refused (NoFile key)) reached (file_absent told key none)
-  load_refuses (TooLarge key) (reached, large) = stops_at key (Refused (TooLarge key)) reached (file_large told key large)
+  load_refuses (TooLarge key) (reached, inl large) = stops_at key (Refused (TooLarge key)) reached (file_large told key large)
+  load_refuses (TooLarge key) (reached, inr over) = stops_over key reached over
   load_refuses (BadMeta refusal) (text, is, refused, other) = without_meta told ulid (Refused (BadMeta refusal)) (bad_meta text refusal is refused other)
   load_refuses (BadIndex refusal) (fields, bytes, has, is, refused, other) = stops_at_index fields (Refused (BadIndex refusal)) has (bad_index bytes refusal is refused other)
   load_refuses UlidDiffers never = absurd never

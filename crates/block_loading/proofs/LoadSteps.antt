@@ -87,10 +87,10 @@ module _ (told : Contents) (ulid : ℕ) where
     without_index e h = rw (has, h) refl
 
     module _ (index : List ℕ) (indexed : List IndexSeries) (is : index_in told ulid ≡ Ok (index, indexed)) (last : ℕ) (counted : last ≡ last_segment indexed) where
-      pub without_segment : (e : LoadRefusal) → segments_at told ulid 1 last ≡ Err e → load_at told ulid ≡ Err e
+      pub without_segment : (e : LoadRefusal) → segments_at told ulid 1 0 last ≡ Err e → load_at told ulid ≡ Err e
       unfolding load_at
-      without_segment e h = let here : segments_at told ulid 1 (last_segment indexed) ≡ Err e = ap (segments_at told ulid 1) (sym counted) ∙ h in rw (has, is, here) refl
+      without_segment e h = let here : segments_at told ulid 1 0 (last_segment indexed) ≡ Err e = ap (segments_at told ulid 1 0) (sym counted) ∙ h in rw (has, is, here) refl
 
-      pub all_loaded : (segments : List (List ℕ)) → segments_at told ulid 1 last ≡ Ok segments → load_at told ulid ≡ Ok (record { meta = meta; index = index; segments = segments })
+      pub all_loaded : (segments : List (List ℕ)) → segments_at told ulid 1 0 last ≡ Ok segments → load_at told ulid ≡ Ok (record { meta = meta; index = index; segments = segments })
       unfolding load_at
-      all_loaded segments h = let here : segments_at told ulid 1 (last_segment indexed) ≡ Ok segments = ap (segments_at told ulid 1) (sym counted) ∙ h in rw (has, is, here) refl
+      all_loaded segments h = let here : segments_at told ulid 1 0 (last_segment indexed) ≡ Ok segments = ap (segments_at told ulid 1 0) (sym counted) ∙ h in rw (has, is, here) refl

@@ -18,7 +18,7 @@ use Rattle.block_content.specs.Checking.{RefusesBlock}
 use Rattle.block_content.specs.declared.check_refusal.CheckRefusal.{CheckRefusal}
 use Rattle.block_content.specs.declared.check_refusal.CheckRefusal.TheVariants as check
 use Rattle.bucket_core.specs.Files.{file_limit}
-use Rattle.block_loading.specs.Loading.{IsOfText, IsBadMeta, IsBadIndex, StopsAt, key_after}
+use Rattle.block_loading.specs.Loading.{IsOfText, meta_limit, IsBadMeta, IsBadIndex, StopsAt, key_after}
 use Rattle.block_loading.specs.LoadReading.{IfRefused, RefusesFile, is_fault, was_fault, refused_block, refused_meta}
 use Rattle.block_loading.specs.declared.load_refusal.LoadRefusal.{LoadRefusal}
 use Rattle.block_loading.specs.declared.load_refusal.LoadRefusal.TheVariants.{Refused, ShelfFault, NoMemory}
@@ -92,7 +92,7 @@ file_last ulid before count key counted is e said = said_as (RefusesFile key) (S
 
 -- a meta is the first file, and an index the second
 
-module _ (ulid : ℕ) (text : List ℕ) (within : length text ≤ file_limit) where
+module _ (ulid : ℕ) (text : List ℕ) (within : length text ≤ meta_limit) where
   bad_meta : (e : MetaRefusal) → meta_of_text text ≡ Err e → e ≢ meta.NoMemory → ◌≡◌ {A = ℕ} 1 1 × IsBadMeta e
   bad_meta e reads told = (refl, record { text = text; within = within; reads = reads; told = told })
 
@@ -106,6 +106,12 @@ module _ (ulid : ℕ) (text : List ℕ) (within : length text ≤ file_limit) wh
   meta_refused meta.BadLabels reads = bad_meta meta.BadLabels reads (λ h. absurd cc)
   meta_refused meta.NoMemory reads = tt
 
+  module _ (lent : List ℕ) (lends : lent ≡ text) where
+    pub meta_first : (e : MetaRefusal) (said : LoadRefusal) → (e ≡ meta.NoMemory) ⊎ (meta_of_text lent ≡ Err e) → said ≡ refused_meta e → IfRefused (StopsAt ulid 1) said
+    meta_first e said (inl none) is = unsaid (StopsAt ulid 1) said (is ∙ ap refused_meta none)
+    meta_first e said (inr h) is = subst (IfRefused (StopsAt ulid 1)) (sym is) (meta_refused e (ap meta_of_text (sym lends) ∙ h))
+
+module _ (ulid : ℕ) (text : List ℕ) (within : length text ≤ file_limit) where
   bad_index : (e : IndexRefusal) → index_at text ≡ Err e → e ≢ index.NoMemory → ◌≡◌ {A = ℕ} 2 2 × IsBadIndex e
   bad_index e reads told = (refl, record { bytes = text; within = within; reads = reads; told = told })
 
@@ -119,10 +125,6 @@ module _ (ulid : ℕ) (text : List ℕ) (within : length text ≤ file_limit) wh
   index_refused index.NoMemory reads = tt
 
   module _ (lent : List ℕ) (lends : lent ≡ text) where
-    pub meta_first : (e : MetaRefusal) (said : LoadRefusal) → (e ≡ meta.NoMemory) ⊎ (meta_of_text lent ≡ Err e) → said ≡ refused_meta e → IfRefused (StopsAt ulid 1) said
-    meta_first e said (inl none) is = unsaid (StopsAt ulid 1) said (is ∙ ap refused_meta none)
-    meta_first e said (inr h) is = subst (IfRefused (StopsAt ulid 1)) (sym is) (meta_refused e (ap meta_of_text (sym lends) ∙ h))
-
     pub index_second : (e : CheckRefusal) (said : LoadRefusal) → (e ≡ check.NoMemory) ⊎ (refused_as refused_index (index_at lent) ≡ Err e) → said ≡ refused_block e → IfRefused (StopsAt ulid 2) said
     index_second e said (inl none) is = unsaid (StopsAt ulid 2) said (is ∙ ap refused_block none)
     index_second e said (inr h) is =
@@ -137,10 +139,10 @@ check_said Says ulid files e said (inr why) is leads = subst (IfRefused Says) (s
 
 -- ---- how large it is
 
-pub of_text : (text lent : List ℕ) (meta : MetaFields) → lent ≡ text → length text ≤ file_limit → meta_of_text lent ≡ Ok meta → HasFew meta (length lent) → IsOfText meta
+pub of_text : (text lent : List ℕ) (meta : MetaFields) → lent ≡ text → length text ≤ meta_limit → meta_of_text lent ≡ Ok meta → HasFew meta (length lent) → IsOfText meta
 of_text text lent meta lends within reads few = record {
   text = lent;
-  within = subst (λ (b : List ℕ). length b ≤ file_limit) (sym lends) within;
+  within = subst (λ (b : List ℕ). length b ≤ meta_limit) (sym lends) within;
   reads = reads;
   few = few;
 }

@@ -16,9 +16,8 @@ use Rattle.block_content.specs.declared.check_refusal.CheckRefusal.TheVariants a
 use Rattle.bucket_core.specs.Causes.{Rose}
 use Rattle.bucket_core.specs.Contents.{Contents}
 use Rattle.bucket_core.specs.Asking.{Asks}
-use Rattle.bucket_core.specs.Files.{file_limit}
 use Rattle.bucket_core.specs.Told.{ShelfTold}
-use Rattle.block_loading.specs.Loading.{last_segment, HasSegments, Reaches, StopsAt, key_after, names_after, names_read}
+use Rattle.block_loading.specs.Loading.{limit_of, load_limit, last_segment, HasSegments, Reaches, StopsAt, key_after, names_after, names_read}
 use Rattle.block_loading.specs.declared.load_refusal.LoadRefusal.{LoadRefusal}
 use Rattle.block_loading.specs.declared.load_refusal.LoadRefusal.TheVariants.{Refused, ShelfFault, NoMemory}
 
@@ -45,7 +44,7 @@ IfRefused Says (Refused refusal) = Says refusal
 IfRefused Says ShelfFault = Unit {0}
 IfRefused Says NoMemory = Unit {0}
 
--- the file under the key is not there, or is too large
+-- the file under the key is not there, or it or the block is too large
 abbrev pub RefusesFile : Key → CheckRefusal → Type 0
 RefusesFile key (check.NoFile other) = other ≡ key
 RefusesFile key (check.TooLarge other) = other ≡ key
@@ -128,7 +127,7 @@ refused_meta refusal = Refused (check.BadMeta refusal)
 -- the bytes of a file, if there is one
 abbrev pub file_in : Key → Option (List ℕ) → Result (List ℕ) LoadRefusal
 file_in key None = Err (Refused (check.NoFile key))
-file_in key (Some bytes) = if nat_lt file_limit (length bytes) then Err (Refused (check.TooLarge key)) else Ok bytes
+file_in key (Some bytes) = if nat_lt (limit_of key) (length bytes) then Err (Refused (check.TooLarge key)) else Ok bytes
 
 unfoldable pub file_at : Contents → Key → Result (List ℕ) LoadRefusal
 file_at told key = file_in key (told (key_text key))
@@ -145,12 +144,21 @@ index_in told ulid = do
   indexed ← refused_as (λ e. refused_block (refused_index e)) (index_at index)
   Ok (index, indexed)
 
--- so many segments, of which the first has this number
-unfoldable pub segments_at : Contents → ℕ → ℕ → ℕ → Result (List (List ℕ)) LoadRefusal
-segments_at told ulid number zero = Ok []
-segments_at told ulid number (suc count) = do
-  segment ← file_at told (Segment ulid number)
-  others ← segments_at told ulid (suc number) count
+-- a segment, behind others that have so many bytes together
+abbrev pub fit_behind : Key → ℕ → List ℕ → Result (List ℕ) LoadRefusal
+fit_behind key before bytes = if nat_lt load_limit (before + length bytes) then Err (Refused (check.TooLarge key)) else Ok bytes
+
+unfoldable pub segment_at : Contents → Key → ℕ → Result (List ℕ) LoadRefusal
+segment_at told key before = do
+  bytes ← file_at told key
+  fit_behind key before bytes
+
+-- so many segments, of which the first has this number, behind others that have so many bytes together
+unfoldable pub segments_at : Contents → ℕ → ℕ → ℕ → ℕ → Result (List (List ℕ)) LoadRefusal
+segments_at told ulid number before zero = Ok []
+segments_at told ulid number before (suc count) = do
+  segment ← segment_at told (Segment ulid number) before
+  others ← segments_at told ulid (suc number) (before + length segment) count
   Ok (segment ∷ others)
 
 -- the files of a block
@@ -166,5 +174,5 @@ unfoldable pub load_at : Contents → ℕ → Result BlockParts LoadRefusal
 load_at told ulid = do
   meta ← meta_at told ulid
   index ← index_in told ulid
-  segments ← segments_at told ulid 1 (last_segment index.1)
+  segments ← segments_at told ulid 1 0 (last_segment index.1)
   Ok (record { meta = meta; index = index.0; segments = segments })

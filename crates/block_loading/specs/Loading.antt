@@ -1,6 +1,6 @@
 -- Which block a shelf has under a ULID, and why it has none that is shipped. The files of a block are its meta, its index, and
 -- the segments from the first to the greatest that the index names. They are looked at in this order.
-use Rattle.std.specs.Prelude.{◌≡◌, ◌≢◌, ◌⊎◌, ℕ, zero, suc, ◌+◌, ◌<◌, ◌≤◌, min, max, List, [], ◌∷◌, length, All, map, slice_get, None, Some, IsSomeAnd, Ok, Err}
+use Rattle.std.specs.Prelude.{◌≡◌, ◌≢◌, ◌⊎◌, ℕ, zero, suc, ◌+◌, ◌^◌, ◌<◌, ◌≤◌, min, max, sum_by, List, [], ◌∷◌, length, All, map, slice_get, None, Some, IsSomeAnd, Ok, Err}
 use Rattle.std.specs.List.{flat_map}
 use Rattle.block_keys.specs.Keys.{segment_limit}
 use Rattle.label_sets.specs.declared.series.Series.{Series}
@@ -26,10 +26,19 @@ use Rattle.bucket_core.specs.Files.{file_limit}
 
 -- ---- files
 
--- The file under the key has these bytes, and does not pass the limit.
+-- how many bytes the meta of a block may have
+abbrev pub meta_limit : ℕ
+meta_limit = 2 ^ 22
+
+-- how many bytes the file under a key may have
+abbrev pub limit_of : Key → ℕ
+limit_of (Meta owner) = meta_limit
+limit_of key = file_limit
+
+-- The file under the key has these bytes, and does not pass its limit.
 pub record HasFile (told : Contents) (key : Key) (bytes : List ℕ) : Type 0 where
   pub stands : told (key_text key) ≡ Some bytes
-  pub within : length bytes ≤ file_limit
+  pub within : length bytes ≤ limit_of key
 
 -- the meta of the block is this one
 pub record HasMeta (told : Contents) (ulid : ℕ) (meta : MetaFields) : Type 0 where
@@ -42,24 +51,30 @@ pub record HasIndex (told : Contents) (ulid : ℕ) (index : List ℕ) (indexed :
   pub file : HasFile told (Index ulid) index
   pub reads : index_at index ≡ Ok indexed
 
--- the segments of the block, which are numbered from 1, begin with these
-abbrev pub HasSegments : Contents → ℕ → List (List ℕ) → Type 0
-HasSegments told ulid segments = (place : ℕ) (bytes : List ℕ) → slice_get segments place ≡ Some bytes → HasFile told (Segment ulid (place + 1)) bytes
+-- how many bytes the segments of a block may have together
+abbrev pub load_limit : ℕ
+load_limit = 2 ^ 30
+
+-- The segments of the block, which are numbered from 1, begin with these. Together they do not pass the limit.
+pub record HasSegments (told : Contents) (ulid : ℕ) (segments : List (List ℕ)) : Type 0 where
+  pub files : (place : ℕ) (bytes : List ℕ) → slice_get segments place ≡ Some bytes → HasFile told (Segment ulid (place + 1)) bytes
+  pub together : sum_by length segments ≤ load_limit
 
 -- ---- how large a block is, whatever a shelf tells
 
--- The meta was read of a text that does not pass the limit, and no list of it has more members than that text has bytes.
+-- The meta was read of a text that does not pass its limit, and no list of it has more members than that text has bytes.
 pub record IsOfText (meta : MetaFields) : Type 0 where
   pub text : List ℕ
-  pub within : length text ≤ file_limit
+  pub within : length text ≤ meta_limit
   pub reads : meta_of_text text ≡ Ok meta
   pub few : HasFew meta (length text)
 
--- No file of the block passes the limit.
+-- No file of the block passes its limit, nor do the segments together.
 pub record AreWithinLimit (files : BlockFiles) : Type 0 where
   pub meta_is : IsOfText (fields_of files.meta)
   pub index_is : length files.index ≤ file_limit
   pub segments_are : All (λ (segment : List ℕ). length segment ≤ file_limit) files.segments
+  pub together : sum_by length files.segments ≤ load_limit
 
 -- ---- the segments that an index names
 
@@ -95,7 +110,7 @@ pub record IsLoaded (told : Contents) (ulid : ℕ) (files : BlockFiles) : Type 0
 
 -- ---- why there is none
 
--- The index names a segment of this number or of a greater one, and all before it stand.
+-- The index names a segment of this number or of a greater one, and all before it stand and do not pass the limit together.
 pub record ReachesSegment (told : Contents) (ulid number : ℕ) : Type 0 where
   pub meta : MetaFields
   pub meta_is : HasMeta told ulid meta
@@ -115,10 +130,19 @@ Reaches told ulid (Index owner) = (owner ≡ ulid) × ((meta : MetaFields) × Ha
 Reaches told ulid (Segment owner number) = (owner ≡ ulid) × ReachesSegment told ulid number
 Reaches told ulid (Mark owner) = ⊥
 
+-- The file is a segment that passes, with those before it, the limit of all together.
+pub record PassesTogether (told : Contents) (ulid : ℕ) (key : Key) : Type 0 where
+  pub before : List (List ℕ)
+  pub before_are : HasSegments told ulid before
+  pub key_is : key ≡ Segment ulid (length before + 1)
+  pub bytes : List ℕ
+  pub file : HasFile told key bytes
+  pub much : load_limit < sum_by length before + length bytes
+
 -- The block cannot be loaded, and this is why.
 abbrev pub RefusesLoad : Contents → ℕ → CheckRefusal → Type 0
 RefusesLoad told ulid (NoFile key) = Reaches told ulid key × (told (key_text key) ≡ None)
-RefusesLoad told ulid (TooLarge key) = Reaches told ulid key × IsSomeAnd (told (key_text key)) (λ bytes. file_limit < length bytes)
+RefusesLoad told ulid (TooLarge key) = Reaches told ulid key × (IsSomeAnd (told (key_text key)) (λ bytes. limit_of key < length bytes) ⊎ PassesTogether told ulid key)
 RefusesLoad told ulid (BadMeta refusal) = (text : List ℕ) × HasFile told (Meta ulid) text × (meta_of_text text ≡ Err refusal) × (refusal ≢ meta.NoMemory)
 RefusesLoad told ulid (BadIndex refusal) = (fields : MetaFields) × (bytes : List ℕ) × HasMeta told ulid fields × HasFile told (Index ulid) bytes × (index_at bytes ≡ Err refusal) × (refusal ≢ index.NoMemory)
 RefusesLoad told ulid UlidDiffers = ⊥
@@ -155,10 +179,10 @@ names_read ulid count = names_after ulid 0 count
 abbrev pub IsLast : ℕ → ℕ → Key → Type 0
 IsLast ulid count key = (before : ℕ) × (count ≡ before + 1) × (key ≡ key_after ulid before)
 
--- A text that does not pass the limit is refused as a meta for this.
+-- A text that does not pass the limit of metas is refused as one for this.
 pub record IsBadMeta (refusal : MetaRefusal) : Type 0 where
   pub text : List ℕ
-  pub within : length text ≤ file_limit
+  pub within : length text ≤ meta_limit
   pub reads : meta_of_text text ≡ Err refusal
   pub told : refusal ≢ meta.NoMemory
 

@@ -41,7 +41,8 @@ pub(crate) fn read_block<F: Shelf>(
 /// Loads a block's files from a shelf.
 ///
 /// The meta comes first, and then the index, whose chunks tell how many segments follow. A segment's number has six digits, so
-/// there are no more than these. The first file that is refused ends the load, and none behind it is read.
+/// there are no more than these. The first file that is refused ends the load, and none behind it is read: so does the first segment
+/// with which the segments together pass 1 GiB.
 pub fn load<F: Shelf>(alloc: Global, shelf: &mut F, ulid: Ulid) -> Result<BlockFiles, LoadRefusal>
     // Where the shelf tells its files, they are the block's, and a block that the shelf has is loaded.
     ensures found { (told : Contents) → (F.told shelf.old).files ≡ Some told
@@ -58,7 +59,8 @@ pub fn load<F: Shelf>(alloc: Global, shelf: &mut F, ulid: Ulid) -> Result<BlockF
         → (refusal : CheckRefusal) → RefusesLoad told ulid refusal
         → (result ≡ Err (LoadRefusal.Refused refusal)) ⊎ WasBrokenOff result }
 
-    // Whatever the shelf tells, exactly the segments up to the last that the index names are loaded.
+    // Whatever the shelf tells, exactly the segments up to the last that the index names are loaded, and no more bytes of them than
+    // a load may hold.
     ensures named { IfOk result AreNamed }
     ensures within { IfOk result AreWithinLimit }
 

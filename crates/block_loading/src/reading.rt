@@ -1,5 +1,5 @@
 //! The files of a block, each as it is read from a shelf.
-ghost use Rattle.std.specs.Prelude.{◌≡◌, ◌⊎◌, ◌+◌, ◌≤◌, ℕ, Option, Some, Ok, Err, List, All, IfOk, IfErr, length, map, max};
+ghost use Rattle.std.specs.Prelude.{◌≡◌, ◌⊎◌, ◌+◌, ◌≤◌, ℕ, Option, Some, Ok, Err, List, All, IfOk, IfErr, length, map, max, sum_by, false};
 ghost use Rattle.std.specs.List.{flat_map};
 ghost use Rattle.block_keys.specs.Keys.{IsLawfulKey, segment_limit};
 ghost use Rattle.block_keys.specs.declared.key.Key.{Key};
@@ -9,33 +9,62 @@ ghost use Rattle.block_content.specs.ContentReading.{index_at, refused_index};
 ghost use Rattle.block_content.specs.declared.check_refusal.CheckRefusal.{CheckRefusal};
 ghost use Rattle.bucket_core.specs.Causes.{file_failed};
 ghost use Rattle.bucket_core.specs.Contents.{Contents};
-ghost use Rattle.bucket_core.specs.Files.{file_limit, IsWithinLimit, ShowsFile};
-ghost use Rattle.block_loading.specs.Loading.{file_number, greatest, last_segment, IsOfText, NamesLast, StopsAt};
-ghost use Rattle.block_loading.specs.LoadReading.{Loads, LoadsIndex, KeepsShelf, AsksFile, AsksSegments, IfRefused, RefusesFile, was_fault, refused_block, refused_meta, file_in, file_at, meta_at, index_in, segments_at};
+ghost use Rattle.bucket_core.specs.Files.{file_limit, ShowsFile};
+ghost use Rattle.block_loading.specs.Loading.{limit_of, load_limit, file_number, greatest, last_segment, IsOfText, NamesLast, StopsAt};
+ghost use Rattle.block_loading.specs.LoadReading.{Loads, LoadsIndex, KeepsShelf, AsksFile, AsksSegments, IfRefused, RefusesFile, was_fault, refused_block, refused_meta, file_in, file_at, meta_at, index_in, segment_at, segments_at};
 
 use crate::LoadRefusal;
 use block_content::{CheckRefusal, read_index};
 use block_keys::{Key, SEGMENT_LIMIT};
 use block_meta::{BlobList, Meta, MetaRefusal};
-use bucket_core::{Shelf, ShelfAnswer};
+use bucket_core::{FILE_LIMIT, Shelf, ShelfAnswer};
 use index_parts::ChunkPlace;
 use index_v2::LentSeries;
 use std::alloc::Global;
 use ulid_core::Ulid;
 use wire_bytes::Blob;
 
+/// How many bytes the segments of a block may have together: 1 GiB. A run's journal takes no more.
+const LOAD_LIMIT: u64 = 0x4000_0000;
+
+/// How many bytes the meta of a block may have: 4 MiB. One of a thousand sources has some 30 KB.
+const META_LIMIT: usize = 0x40_0000;
+
+/// How many bytes the file under a key may have.
+fn limit_of(key: &Key) -> usize
+    ensures { result ≡ limit_of key.now }
+{
+    match key {
+        Key::Meta(_) => META_LIMIT,
+        Key::Index(_) | Key::Segment(..) | Key::Mark(_) => FILE_LIMIT,
+    }
+}
+
+/// The bytes that were found under a key, unless they are too many.
+fn found(key: &Key, bytes: Blob) -> Result<Blob, LoadRefusal>
+    ensures read { (file : Option (List ℕ)) → file ≡ Some bytes
+        → Loads (λ bytes. bytes) result (file_in key.now file) }
+    ensures within { IfOk result (λ bytes. length bytes ≤ limit_of key.now) }
+    ensures stopped { IfErr result (IfRefused (RefusesFile key.now)) }
+    ensures calm { was_fault result ≡ false }
+{
+    if bytes.bytes().len() > limit_of(key) {
+        return Err(LoadRefusal::Refused(CheckRefusal::TooLarge(*key)));
+    }
+    Ok(bytes)
+}
+
 /// What a file's reading was answered, as the file under a key.
 fn file_of(key: &Key, answer: ShelfAnswer) -> Result<Blob, LoadRefusal>
-    requires { IsWithinLimit answer }
     ensures read { (file : Option (List ℕ)) → ShowsFile file answer
         → Loads (λ bytes. bytes) result (file_in key.now file) }
-    ensures within { IfOk result (λ bytes. length bytes ≤ file_limit) }
+    ensures within { IfOk result (λ bytes. length bytes ≤ limit_of key.now) }
     ensures stopped { IfErr result (IfRefused (RefusesFile key.now)) }
     ensures failed { was_fault result ≡ file_failed answer }
     ensures memory { answer ≡ ShelfAnswer.NoMemory → result ≡ Err LoadRefusal.NoMemory }
 {
     match answer {
-        ShelfAnswer::Found(bytes) => Ok(bytes),
+        ShelfAnswer::Found(bytes) => found(key, bytes),
         ShelfAnswer::Absent => Err(LoadRefusal::Refused(CheckRefusal::NoFile(*key))),
         ShelfAnswer::TooLarge => Err(LoadRefusal::Refused(CheckRefusal::TooLarge(*key))),
         ShelfAnswer::Failed => Err(LoadRefusal::ShelfFault),
@@ -48,7 +77,7 @@ fn read_file<F: Shelf>(alloc: Global, shelf: &mut F, key: &Key) -> Result<Blob, 
     requires { IsLawfulKey key.now }
     ensures read { (told : Contents) → (F.told shelf.old).files ≡ Some told
         → Loads (λ bytes. bytes) result (file_at told key.now) }
-    ensures within { IfOk result (λ bytes. length bytes ≤ file_limit) }
+    ensures within { IfOk result (λ bytes. length bytes ≤ limit_of key.now) }
     ensures stopped { IfErr result (IfRefused (RefusesFile key.now)) }
     ensures asks { AsksFile F.told shelf.old shelf.new key.now result }
     ensures kept { KeepsShelf F.told shelf.old shelf.new (was_fault result) }
@@ -162,7 +191,32 @@ fn last_segment(indexed: &[LentSeries<'_>]) -> u32
     last
 }
 
-/// Reads so many segments of a block.
+/// Reads a segment of a block, behind others that have so many bytes together.
+fn read_segment<F: Shelf>(
+    alloc: Global,
+    shelf: &mut F,
+    key: &Key,
+    before: u64,
+) -> Result<Blob, LoadRefusal>
+    requires lawful { IsLawfulKey key.now }
+    requires few { before ≤ load_limit }
+    ensures read { (told : Contents) → (F.told shelf.old).files ≡ Some told
+        → Loads (λ bytes. bytes) result (segment_at told key.now before) }
+    ensures within { IfOk result (λ bytes. length bytes ≤ file_limit) }
+    ensures together { IfOk result (λ bytes. before + length bytes ≤ load_limit) }
+    ensures stopped { IfErr result (IfRefused (RefusesFile key.now)) }
+    ensures asks { AsksFile F.told shelf.old shelf.new key.now result }
+    ensures kept { KeepsShelf F.told shelf.old shelf.new (was_fault result) }
+{
+    let segment = read_file(alloc, shelf, key)?;
+    let bytes = before + segment.bytes().len() as u64;
+    if bytes > LOAD_LIMIT {
+        return Err(LoadRefusal::Refused(CheckRefusal::TooLarge(*key)));
+    }
+    Ok(segment)
+}
+
+/// Reads so many segments of a block. The first that passes, with those before it, what all may have together ends it.
 pub(crate) fn read_segments<F: Shelf>(
     alloc: Global,
     shelf: &mut F,
@@ -171,16 +225,19 @@ pub(crate) fn read_segments<F: Shelf>(
 ) -> Result<BlobList, LoadRefusal>
     requires { last ≤ segment_limit }
     ensures read { (told : Contents) → (F.told shelf.old).files ≡ Some told
-        → Loads (λ segments. segments) result (segments_at told ulid 1 last) }
+        → Loads (λ segments. segments) result (segments_at told ulid 1 0 last) }
     ensures many { IfOk result (λ segments. length segments ≡ last) }
     ensures within { IfOk result (All (λ (segment : List ℕ). length segment ≤ file_limit)) }
+    ensures together { IfOk result (λ segments. sum_by length segments ≤ load_limit) }
     ensures asks { AsksSegments F.told shelf.old shelf.new
         ulid last result }
     ensures kept { KeepsShelf F.told shelf.old shelf.new (was_fault result) }
 {
     let mut segments = BlobList::new(alloc);
+    let mut bytes = 0u64;
     for number in 0..last {
-        let segment = read_file(alloc, shelf, &Key::Segment(ulid, number + 1))?;
+        let segment = read_segment(alloc, shelf, &Key::Segment(ulid, number + 1), bytes)?;
+        bytes += segment.bytes().len() as u64;
         segments.push(segment)?;
     }
     Ok(segments)

@@ -1,6 +1,6 @@
 -- Samples that are put part by part.
 use Rattle.std.proofs.Common.{◌≡◌, ℕ, zero, suc, ◌+◌, ◌-◌, ◌<◌, ◌≤◌, List, [], ◌∷◌, ◌++◌, length, Less, get_or, take, drop, None, Some, refl, sym, ap, subst, ◌∙◌, append-nil, append_assoc, length-append, take-append-drop, arith, inl, inr, ℤ, pos, negsuc, to_z, of_z}
-use Rattle.std.specs.Prelude.{slice_get, min, ◌^◌, ◌<ℤ◌, ◌≤ℤ◌, neg_ℤ, Contains, OnOk, Result, Ok, Err, FitsSigned}
+use Rattle.std.specs.Prelude.{slice_get, min, ◌^◌, ◌<ℤ◌, ◌≤ℤ◌, neg_ℤ, Contains, OnErr, OnOk, Result, Ok, Err, FitsSigned}
 use Rattle.std.specs.Int.{w64}
 use Rattle.std.proofs.lemmas.Int.{ints, to_z-of_z}
 use Rattle.std.specs.Ordering.{int_cmp}
@@ -26,7 +26,7 @@ use Rattle.xor_chunks.specs.Grammar.{IsText}
 use Rattle.block_meta.specs.Lawful.{AreLawfulTimes}
 use Rattle.xor_chunks.specs.Written.{written, IsChunkTime, AreOfChunk}
 use Rattle.block_writing.specs.Put.{PlanFields, PutChunk, PutSeries, Put, IsStored, IsAfterChunks, fitted, with_chunk, with_series}
-use Rattle.block_writing.specs.Built.{IsPart, IsEncoded, AreOfBlock, BeginAfter, HasMore, HasParts, StandsFor}
+use Rattle.block_writing.specs.Built.{IsPart, IsEncoded, AreOfBlock, BeginAfter, HasFront, HasMore, HasParts, StandsFor}
 use Rattle.block_writing.proofs.Runs.{order_more}
 use Rattle.block_writing.proofs.Lists.{pushed_parts, all_left}
 use Rattle.block_writing.proofs.PutLaws.{behind_last}
@@ -218,6 +218,22 @@ all_parts begin samples left now are h none =
             subst (λ (l : List PutChunk). IsAfterChunks l time) (sym split) (behind_last (begin.chunks ++ front) last time before)
       ];
     }
+
+-- what was put before memory ran out
+pub front_put : {T E : Type 0} (r : Result T E) (begin : Put) (samples left : List Sample) (now new : Put) → SoFar begin samples left now → new ≡ now → OnErr r (HasFront begin samples new)
+front_put (Ok t) begin samples left now new h same = tt
+front_put (Err e) begin samples left now new h same = subst (HasFront begin samples) (sym same) (record {
+  parts = h.parts;
+  left = left;
+  whole = h.whole;
+  cut = h.cut;
+  made = h.made;
+  chunks = h.chunks;
+  plan_is = h.plan_is;
+  series_are = h.series_is;
+  chunks_are = h.chunks_are;
+  samples_are = h.samples_is;
+})
 
 -- ---- a series of its own
 

@@ -71,6 +71,19 @@ pub record HasParts (old : Put) (samples : List Sample) (new : Put) : Type 0 whe
   pub samples_are : new.samples ≡ fitted (old.samples + length samples)
   pub behind : (time : ℤ) → AllByRecursion (λ s. s.time <ℤ time) samples → IsAfterChunks new.chunks time
 
+-- Samples were put up to one of them, part by part as chunks, and none of those that are left.
+pub record HasFront (old : Put) (samples : List Sample) (new : Put) : Type 0 where
+  pub parts : List (List Sample)
+  pub left : List Sample
+  pub whole : joined parts ++ left ≡ samples
+  pub cut : InOrder IsPart parts
+  pub made : List PutChunk
+  pub chunks : AllZip IsEncoded parts made
+  pub plan_is : new.plan ≡ old.plan
+  pub series_are : new.series ≡ old.series
+  pub chunks_are : new.chunks ≡ old.chunks ++ made
+  pub samples_are : new.samples ≡ fitted (old.samples + length (joined parts))
+
 -- A series falls into parts, each of which is a chunk.
 pub record IsPutAs (series : Series) (put : PutSeries) : Type 0 where
   pub parts : List (List Sample)

@@ -1,13 +1,13 @@
 //! A block that is built of samples, as a script declares them: 120 samples a chunk, which is how Prometheus cuts them.
 //! A merge puts the samples that it merged in the same way.
 
-ghost use Rattle.std.specs.Prelude.{◌≡◌, ◌⊎◌, ◌^◌, ◌<◌, [], length, Err, IfOk, OnOk};
+ghost use Rattle.std.specs.Prelude.{◌≡◌, ◌⊎◌, ◌^◌, ◌<◌, [], length, Err, IfOk, OnErr, OnOk};
 ghost use Rattle.std.specs.List.{AllByRecursion};
 ghost use Rattle.base.specs.Grammar.{IsBytes};
 ghost use Rattle.label_sets.specs.Times.{IsWithin};
 ghost use Rattle.block_meta.specs.Lawful.{AreLawfulTimes};
 ghost use Rattle.xor_chunks.specs.Written.{AreOfChunk};
-ghost use Rattle.block_writing.specs.Built.{AreBuildable, AreOfBlock, BeginAfter, HasParts, IsEncoded, HasMore, IsBuilt, HaveNoBlock};
+ghost use Rattle.block_writing.specs.Built.{AreBuildable, AreOfBlock, BeginAfter, HasFront, HasParts, IsEncoded, HasMore, IsBuilt, HaveNoBlock};
 ghost use Rattle.block_writing.specs.Put.{PutChunk, IsAfterSeries, with_chunk};
 ghost use Rattle.block_writing.specs.Writing.{plan_fields};
 
@@ -24,14 +24,15 @@ fn put_part(alloc: Global, writer: &mut BlockWriter, part: &[Sample]) -> Result<
     requires within { AllByRecursion (IsWithin writer.old.plan.min_time
         writer.old.plan.max_time) part.now }
     requires after { BeginAfter writer.old.chunks part.now }
-    ensures { OnOk result ((chunk : PutChunk) × IsEncoded part.now chunk
+    ensures ok { OnOk result ((chunk : PutChunk) × IsEncoded part.now chunk
         × (writer.new ≡ with_chunk writer.old chunk (length part.now))) }
+    ensures err { OnErr result (writer.new ≡ writer.old) }
 {
     let data = encode(alloc, part)?;
     writer.chunk(data.bytes(), part[0].time, part[part.len() - 1].time)
 }
 
-/// Puts samples of a series, part by part as chunks.
+/// Puts samples of a series, part by part as chunks. Where memory runs out, the parts before stay put.
 pub fn put_parts(
     alloc: Global,
     writer: &mut BlockWriter,
@@ -41,7 +42,8 @@ pub fn put_parts(
     requires times { AreLawfulTimes writer.old.plan.min_time writer.old.plan.max_time }
     requires after { BeginAfter writer.old.chunks samples.now }
     requires counted { writer.old.samples < 2 ^ 64 }
-    ensures { OnOk result (HasParts writer.old samples.now writer.new) }
+    ensures ok { OnOk result (HasParts writer.old samples.now writer.new) }
+    ensures err { OnErr result (HasFront writer.old samples.now writer.new) }
 {
     let mut left = samples;
     while !left.is_empty() {

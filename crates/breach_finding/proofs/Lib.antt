@@ -18,6 +18,7 @@ pub mod ViewTimes
 pub mod SeatTables
 pub mod Judged
 pub mod Named
+pub mod Waits
 pub mod WalkSteps
 pub mod ViewSteps
 pub mod LastEntries

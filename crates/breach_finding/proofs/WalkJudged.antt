@@ -26,7 +26,8 @@ use Rattle.breach_finding.specs.Seats.{IsToldOf}
 use Rattle.breach_finding.specs.Tables.{Numbers}
 use Rattle.breach_finding.specs.Told.{IsTold}
 use Rattle.breach_finding.specs.Views.{IsLastView}
-use Rattle.breach_finding.specs.Walks.{IsWalked, UnderWays, rule_of}
+use Rattle.breach_finding.specs.Walks.{IsWalked, rule_of}
+use Rattle.breach_finding.specs.declared.followed.Followed.{Followed}
 use Rattle.breach_finding.specs.declared.found.BreachRule.TheVariants as found
 use Rattle.breach_finding.specs.declared.found.Refusal.{Refusal}
 use Rattle.breach_finding.proofs.Judged.{judged_next}
@@ -57,7 +58,7 @@ reads_or_not e = by_key (read_key e.op) refl
     ]
 
 module _ (setting : Setting) (lawful : IsLawfulScript setting.script) (tick : ℕ) (journal : List Entry) (is : IsJournal tick journal) (bytes : IsOfBytes journal) (before after : List Entry) (e : Entry) (parts : journal ≡ before ++ e ∷ after)
-    (standing : Standing) (unders : UnderWays) (views : Numbers) (walked : IsWalked setting journal before standing unders views) where
+    (old : Followed) (walked : IsWalked setting journal before old.standing old.unders old.views) where
   abbrev R : Rule → ℕ → ℕ → Type 0
   R rule = Refuses setting journal rule before e
 
@@ -76,8 +77,8 @@ module _ (setting : Setting) (lawful : IsLawfulScript setting.script) (tick : �
   named : AllList (of_seat e.seat before)
   named = seat_named setting tick journal is bytes before (e ∷ after) parts walked.kept e.seat
 
-  seen_here : (gateway : ℕ) → IsLastView setting journal gateway e.seq (get nat_cmp views gateway)
-  seen_here gateway = subst (λ (n : ℕ). IsLastView setting journal gateway n (get nat_cmp views gateway)) (sym number) (walked.seen gateway)
+  seen_here : (gateway : ℕ) → IsLastView setting journal gateway e.seq (get nat_cmp old.views gateway)
+  seen_here gateway = subst (λ (n : ℕ). IsLastView setting journal gateway n (get nat_cmp old.views gateway)) (sym number) (walked.seen gateway)
 
   -- ---- the answers
 
@@ -116,24 +117,24 @@ module _ (setting : Setting) (lawful : IsLawfulScript setting.script) (tick : �
     judged_past =
         judged_next R 4 found.ViewTime refl (judged_next R 3 found.SyncTime refl early None no_sync) None (not_seated setting journal before e none)
 
-    pub walked_past : IsKept setting journal before e → (stood : Standing) → IsStanding journal stood (left_by e.op e.reply (stands before)) → IsWalked setting journal (before ++ e ∷ []) stood unders views
+    pub walked_past : IsKept setting journal before e → (stood : Standing) → IsStanding journal stood (left_by e.op e.reply (stands before)) → IsWalked setting journal (before ++ e ∷ []) stood old.unders old.views
     walked_past kept stood held = record {
       held = subst (IsStanding journal stood) (sym stands_next) held;
-      watched = watched_past setting before e unders unders none walked.watched;
+      watched = watched_past setting before e old.unders old.unders none walked.watched;
       waits = walked.waits;
-      seen = λ gateway. subst (λ (n : ℕ). IsLastView setting journal gateway n (get nat_cmp views gateway)) (sym next_number) (views_past setting lawful journal rises e among none gateway (get nat_cmp views gateway) (seen_here gateway));
+      seen = λ gateway. subst (λ (n : ℕ). IsLastView setting journal gateway n (get nat_cmp old.views gateway)) (sym next_number) (views_past setting lawful journal rises e among none gateway (get nat_cmp old.views gateway) (seen_here gateway));
       kept = kept_more setting journal before e walked.kept kept;
     }
 
   -- ---- at a gateway's seat
 
   module _ (gateway : ℕ) (sits : IsSeatOf setting gateway e.seat) (lasts : Numbers) (known : (seat : ℕ) → get nat_cmp lasts seat ≡ number_of_last (of_seat seat journal)) (early : IsJudged R 3 None)
-      (new : UnderWays) (given : Numbers) (told : Option Refusal) (late : IsLateTold setting.script lasts unders new views given gateway e told) where
+      (new : Followed) (told : Option Refusal) (late : IsLateTold setting.script lasts old new gateway e told) where
     one : (other : ℕ) → IsSeatOf setting other e.seat → other ≡ gateway
     one other sits' = one_gateway setting lawful gateway other e.seat sits sits'
 
     of_sync : IsToldOf (sync_rules setting gateway) (of_seat e.seat before) e late.sync
-    of_sync = told_on setting before e unders new gateway sits one late.sync late.turn low named walked.watched
+    of_sync = told_on setting before e old.unders new.unders gateway sits one late.sync late.turn low named walked.watched
 
     slow_told : IsTold (R sync_time) late.slow
     slow_told =
@@ -144,7 +145,7 @@ module _ (setting : Setting) (lawful : IsLawfulScript setting.script) (tick : �
 
     stale_told : IsTold (R view_time) late.stale
     stale_told = elim (reads_or_not e) [
-      | inl reads ↦ view_told setting journal before e lawful rises gateway sits reads (get nat_cmp views gateway) (seen_here gateway) late.stale (late.stale_is reads)
+      | inl reads ↦ view_told setting journal before e lawful rises gateway sits reads (get nat_cmp old.views gateway) (seen_here gateway) late.stale (late.stale_is reads)
       | inr none ↦ subst (IsTold (R view_time)) (sym (late.no_read none)) (not_read setting journal before e none)
     ]
 
@@ -155,14 +156,14 @@ module _ (setting : Setting) (lawful : IsLawfulScript setting.script) (tick : �
     pub judged_late : IsJudged R 5 told
     judged_late = subst (IsJudged R 5) (sym late.answer) (by_slow late.slow slow_told)
 
-    pub walked_on : IsKept setting journal before e → (stood : Standing) → IsStanding journal stood (left_by e.op e.reply (stands before)) → IsWalked setting journal (before ++ e ∷ []) stood new given
+    pub walked_on : IsKept setting journal before e → (stood : Standing) → IsStanding journal stood (left_by e.op e.reply (stands before)) → IsWalked setting journal (before ++ e ∷ []) stood new.unders new.views
     walked_on kept stood held = record {
       held = subst (IsStanding journal stood) (sym stands_next) held;
-      watched = watched_on setting before e unders new gateway sits one late.sync late.turn low named walked.watched;
-      waits = waits_on setting before e unders new gateway sits one late.sync late.turn low named walked.watched walked.waits;
+      watched = watched_on setting before e old.unders new.unders gateway sits one late.sync late.turn low named walked.watched;
+      waits = waits_on setting before e old.unders new.unders gateway sits one late.sync late.turn low named walked.watched walked.waits;
       seen = λ other.
-          subst (λ (n : ℕ). IsLastView setting journal other n (get nat_cmp given other)) (sym next_number)
+          subst (λ (n : ℕ). IsLastView setting journal other n (get nat_cmp new.views other)) (sym next_number)
           (subst (IsLastView setting journal other (e.seq + 1)) (sym (late.views other))
-          (views_on setting lawful journal before after e parts rises gateway sits low named late.sync of_sync other (get nat_cmp views other) (seen_here other)));
+          (views_on setting lawful journal before after e parts rises gateway sits low named late.sync of_sync other (get nat_cmp old.views other) (seen_here other)));
       kept = kept_more setting journal before e walked.kept kept;
     }

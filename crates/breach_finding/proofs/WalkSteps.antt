@@ -20,6 +20,7 @@ use Rattle.breach_finding.specs.declared.watching.Told.{Told}
 use Rattle.lifecycle_core.proofs.views.OneOpening.{AllList}
 use Rattle.breach_finding.proofs.SeatTables.{num_itself}
 use Rattle.breach_finding.proofs.SeatTurns.{last_split, seat_step}
+use Rattle.breach_finding.proofs.Waits.{turn_waits}
 
 -- ---- a seat's entries with one entry more
 
@@ -88,7 +89,4 @@ module _ (setting : Setting) (before : List Entry) (e : Entry) (old new : UnderW
     ]
 
     pub waits_on : ((seat : ℕ) → IsWaiting (get nat_cmp old seat)) → (seat : ℕ) → IsWaiting (get nat_cmp new seat)
-    waits_on waits seat = elim (cases_Bool (is_eq (nat_cmp e.seat seat))) [
-      | inl same ↦ subst IsWaiting (sym (w.seats seat ∙ ap (λ b. cond b w.turn.under (get nat_cmp old seat)) same)) w.waits
-      | inr differs ↦ subst IsWaiting (sym (w.seats seat ∙ ap (λ b. cond b w.turn.under (get nat_cmp old seat)) differs)) (waits seat)
-    ]
+    waits_on waits = turn_waits (sync_rules setting gateway) old new e told w waits

@@ -29,6 +29,7 @@ use Rattle.breach_finding.specs.Tables.{AreTablesOf, Numbers, SitsBefore}
 use Rattle.breach_finding.specs.Views.{IsLastView}
 use Rattle.breach_finding.specs.Walks.{IsFound, IsWalked, UnderWays, rule_of, setting_with}
 use Rattle.breach_finding.specs.Watching.{IsWaiting}
+use Rattle.breach_finding.specs.declared.followed.Followed.{Followed}
 use Rattle.breach_finding.specs.declared.found.Breach.{Breach}
 use Rattle.breach_finding.specs.declared.found.BreachRule.{BreachRule}
 use Rattle.breach_finding.specs.declared.found.Refusal.{Refusal}
@@ -97,8 +98,8 @@ module _ (setting : Setting) (tick : ℕ) (journal : List Entry) (is : IsJournal
 -- ---- an entry
 
 module _ (script : Script) (shelf : ℕ → FromShelf) (lawful : IsLawfulScript script) (tick : ℕ) (journal : List Entry) (is : IsJournal tick journal) (bytes : IsOfBytes journal) (tables : Tables) (are : AreTablesOf script journal tables)
-    (place : ℕ) (e : Entry) (at : slice_get journal place ≡ Some e) (standing : Standing) (unders new : UnderWays) (views given : Numbers)
-    (walked : IsWalked (setting_with script shelf) journal (take place journal) standing unders views) (told : Option Refusal) where
+    (place : ℕ) (e : Entry) (at : slice_get journal place ≡ Some e) (old new : Followed)
+    (walked : IsWalked (setting_with script shelf) journal (take place journal) old.standing old.unders old.views) (told : Option Refusal) where
   abbrev setting : Setting
   setting = setting_with script shelf
 
@@ -118,46 +119,58 @@ module _ (script : Script) (shelf : ℕ → FromShelf) (lawful : IsLawfulScript 
   R rule = Refuses setting journal rule before e
 
   found_so : (below : ℕ) (r : Refusal) → IsJudged R below (Some r) → IsBreach setting journal (rule_of r.rule) e.seq r.found r.allowed
-  found_so below r judged = found_breach setting lawful tick journal is bytes before after e parts standing unders views walked below r judged
+  found_so below r judged = found_breach setting lawful tick journal is bytes before after e parts old walked below r judged
 
   sits_here : (gateway : ℕ) → get nat_cmp tables.gateways e.seat ≡ Some gateway → IsSeatOf setting gateway e.seat
   sits_here gateway whose = sits_of script shelf gateway e.seat ((are.gateways).found e.seat gateway whose)
 
-  none_early : IsEarlyTold script journal standing e None → IsJudged R 3 None
+  none_early : IsEarlyTold script journal old.standing e None → IsJudged R 3 None
   none_early early = early setting journal before refl walked.held
 
-  late_judged : IsEarlyTold script journal standing e None → (late : Option Refusal) → IsWatchedTold script tables unders new views given e late → IsJudged R 5 late
-  late_judged early late (inl t) = subst (IsJudged R 5) (sym t.none) (judged_past setting lawful tick journal is bytes before after e parts standing unders views walked (nobody_sits t.nobody) (none_early early))
+  late_judged : IsEarlyTold script journal old.standing e None → (late : Option Refusal) → IsWatchedTold script tables old new e late → IsJudged R 5 late
+  late_judged early late (inl t) = subst (IsJudged R 5) (sym t.none) (judged_past setting lawful tick journal is bytes before after e parts old walked (nobody_sits t.nobody) (none_early early))
   late_judged early late (inr t) =
-      judged_late setting lawful tick journal is bytes before after e parts standing unders views walked t.gateway (sits_here t.gateway t.whose) tables.lasts are.lasts (none_early early) new given late t.late
+      judged_late setting lawful tick journal is bytes before after e parts old walked t.gateway (sits_here t.gateway t.whose) tables.lasts are.lasts (none_early early) new late t.late
 
-  all_judged : IsAskedOn script journal standing tables unders new views given e told → IsJudged R 6 told
+  all_judged : IsAskedOn script journal tables old new e told → IsJudged R 6 told
   all_judged t =
-      judged_all setting lawful tick journal is bytes before after e parts standing unders views walked t.late told t.slow (late_judged t.early t.late t.watched)
+      judged_all setting lawful tick journal is bytes before after e parts old walked t.late told t.slow (late_judged t.early t.late t.watched)
       (compaction_told script shelf journal before e tables.compactors (get nat_cmp tables.begins e.seat) are.compactors (are.begins e.seat) t.slow t.slow_is) t.answer
 
-  pub refused_here : IsEntryTold script journal standing tables unders new views given e told → (r : Refusal) → told ≡ Some r → IsBreach setting journal (rule_of r.rule) e.seq r.found r.allowed
+  pub refused_here : IsEntryTold script journal tables old new e told → (r : Refusal) → told ≡ Some r → IsBreach setting journal (rule_of r.rule) e.seq r.found r.allowed
   refused_here (inl t) r some =
       let same : t.refusal ≡ r = cc (t.is, some) in
       subst (λ (q : Refusal). IsBreach setting journal (rule_of q.rule) e.seq q.found q.allowed) same (found_so 3 t.refusal (t.early setting journal before refl walked.held))
   refused_here (inr t) r some = found_so 6 r (subst (IsJudged R 6) some (all_judged t))
 
-  pub goes_on : IsEntryTold script journal standing tables unders new views given e told → told ≡ None → (stood : Standing) → IsStanding journal stood (left_by e.op e.reply (stands before)) → IsWalked setting journal (take (place + 1) journal) stood new given
-  goes_on t none stood held = subst (λ (es : List Entry). IsWalked setting journal es stood new given) (sym (front_more journal place e at)) (by_told t)
+  -- what stands is as before
+  stands_still : IsEntryTold script journal tables old new e told → told ≡ None → new.standing ≡ old.standing
+  stands_still (inl t) none = cc (t.is, none)
+  stands_still (inr t) none = by_watched t.late t.watched
     where
-      by_watched : (early : IsEarlyTold script journal standing e None) (late : Option Refusal) → IsKept setting journal before e → IsWatchedTold script tables unders new views given e late → IsWalked setting journal (before ++ e ∷ []) stood new given
-      by_watched early late kept (inl t) =
-          subst (λ (u : UnderWays). IsWalked setting journal (before ++ e ∷ []) stood u given) (sym t.under)
-          (subst (λ (v : Numbers). IsWalked setting journal (before ++ e ∷ []) stood unders v) (sym t.views)
-          (walked_past setting lawful tick journal is bytes before after e parts standing unders views walked (nobody_sits t.nobody) (none_early early) kept stood held))
-      by_watched early late kept (inr t) =
-          walked_on setting lawful tick journal is bytes before after e parts standing unders views walked t.gateway (sits_here t.gateway t.whose) tables.lasts are.lasts
-          (none_early early) new given late t.late kept stood held
+      by_watched : (late : Option Refusal) → IsWatchedTold script tables old new e late → new.standing ≡ old.standing
+      by_watched late (inl w) = ap (λ (f : Followed). f.standing) w.same
+      by_watched late (inr w) = w.late.standing
 
-      by_told : IsEntryTold script journal standing tables unders new views given e told → IsWalked setting journal (before ++ e ∷ []) stood new given
+  pub goes_on : IsEntryTold script journal tables old new e told → told ≡ None → (stood : Standing) → (IsStanding journal new.standing (stands before) → IsStanding journal stood (left_by e.op e.reply (stands before)))
+      → IsWalked setting journal (take (place + 1) journal) stood new.unders new.views
+  goes_on t none stood stand = subst (λ (es : List Entry). IsWalked setting journal es stood new.unders new.views) (sym (front_more journal place e at)) (by_told t)
+    where
+      held : IsStanding journal stood (left_by e.op e.reply (stands before))
+      held = stand (subst (λ (s : Standing). IsStanding journal s (stands before)) (sym (stands_still t none)) walked.held)
+
+      by_watched : (early : IsEarlyTold script journal old.standing e None) (late : Option Refusal) → IsKept setting journal before e → IsWatchedTold script tables old new e late → IsWalked setting journal (before ++ e ∷ []) stood new.unders new.views
+      by_watched early late kept (inl t) =
+          subst (λ (f : Followed). IsWalked setting journal (before ++ e ∷ []) stood f.unders f.views) (sym t.same)
+          (walked_past setting lawful tick journal is bytes before after e parts old walked (nobody_sits t.nobody) (none_early early) kept stood held)
+      by_watched early late kept (inr t) =
+          walked_on setting lawful tick journal is bytes before after e parts old walked t.gateway (sits_here t.gateway t.whose) tables.lasts are.lasts
+          (none_early early) new late t.late kept stood held
+
+      by_told : IsEntryTold script journal tables old new e told → IsWalked setting journal (before ++ e ∷ []) stood new.unders new.views
       by_told (inl t) = cc (t.is, none)
       by_told (inr t) =
-          by_watched t.early t.late (is_kept setting lawful tick journal is bytes before after e parts standing unders views walked (subst (IsJudged R 6) none (all_judged t))) t.watched
+          by_watched t.early t.late (is_kept setting lawful tick journal is bytes before after e parts old walked (subst (IsJudged R 6) none (all_judged t))) t.watched
 
 -- the breach that is made of a refusal
 pub found_is : (setting : Setting) (journal : List Entry) (r : Refusal) (number : ℕ) (b : Breach) → b.rule ≡ r.rule → b.entry ≡ number → b.found ≡ r.found → b.allowed ≡ r.allowed → IsBreach setting journal (rule_of r.rule) number r.found r.allowed → IsFound setting journal b

@@ -13,6 +13,7 @@ use Rattle.breach_finding.specs.Tables.{Numbers, gateway_or}
 use Rattle.breach_finding.specs.Views.{IsViewAnswer}
 use Rattle.breach_finding.specs.Walks.{UnderWays, rule_of}
 use Rattle.breach_finding.specs.Watching.{IsTurn, IsWaiting}
+use Rattle.breach_finding.specs.declared.followed.Followed.{Followed}
 use Rattle.breach_finding.specs.declared.found.BreachRule.{BreachRule}
 use Rattle.breach_finding.specs.declared.found.BreachRule.TheVariants as found
 use Rattle.breach_finding.specs.declared.found.Refusal.{Refusal}
@@ -63,15 +64,16 @@ first_of None other = other
 first_of (Some own) other = Some own
 
 -- What is told of an entry of a gateway's seat by the syncs and views, and what changes with it.
-pub record IsLateTold (script : Script) (lasts : Numbers) (old new : UnderWays) (seen given : Numbers) (gateway : ℕ) (e : Entry) (told : Option Refusal) : Type 0 where
+pub record IsLateTold (script : Script) (lasts : Numbers) (old new : Followed) (gateway : ℕ) (e : Entry) (told : Option Refusal) : Type 0 where
+  pub standing : new.standing ≡ old.standing
   pub sync : Option Told
-  pub turn : IsWatchTurn (sync_rules (setting_of script) gateway) old new e sync
-  pub views : (other : ℕ) → get nat_cmp given other ≡ gateway_or (given_by sync) (is_eq (nat_cmp gateway other)) (get nat_cmp seen other)
+  pub turn : IsWatchTurn (sync_rules (setting_of script) gateway) old.unders new.unders e sync
+  pub views : (other : ℕ) → get nat_cmp new.views other ≡ gateway_or (given_by sync) (is_eq (nat_cmp gateway other)) (get nat_cmp old.views other)
   pub last : Bool
   pub is_last : (last ≡ true) ↔ (get nat_cmp lasts e.seat ≡ Some e.seq)
   pub slow : Option (ℕ × ℕ)
   pub slow_is : IsSyncAnswer sync last e.moment.ms script.rules.ignore.ms slow
   pub stale : Option (ℕ × ℕ)
-  pub stale_is : ReadsSamples e → IsViewAnswer (get nat_cmp seen gateway) (e.moment.ms + script.rules.ignore.ms) script.rules.delete.ms stale
+  pub stale_is : ReadsSamples e → IsViewAnswer (get nat_cmp old.views gateway) (e.moment.ms + script.rules.ignore.ms) script.rules.delete.ms stale
   pub no_read : (ReadsSamples e → ⊥) → stale ≡ None
   pub answer : told ≡ first_of (refusal_of found.SyncTime slow) (refusal_of found.ViewTime stale)

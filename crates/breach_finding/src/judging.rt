@@ -10,7 +10,6 @@ ghost use Rattle.world_core.specs.Operations.{IsLawful, IsReplyTo};
 ghost use Rattle.world_core.specs.Standing.{left_by, stands};
 ghost use Rattle.world_core.specs.declared.entry.Entry.{Entry};
 ghost use Rattle.breach_finding.specs.Standings.{IsStanding};
-ghost use Rattle.script_core.specs.Lawful.{AreLawfulRules};
 ghost use Rattle.lifecycle_core.specs.Breaches.{ReadsSamples, Refuses};
 ghost use Rattle.lifecycle_core.specs.Setting.{Setting, setting_of};
 ghost use Rattle.lifecycle_core.specs.Tasks.{partition_of, sync_rules};
@@ -21,6 +20,7 @@ ghost use Rattle.breach_finding.specs.Views.{IsViewAnswer};
 ghost use Rattle.breach_finding.specs.Watching.{IsWaiting};
 
 use crate::Standing;
+use crate::followed::Followed;
 use crate::found::{BreachRule, Refusal};
 use crate::lies::lie;
 use crate::puts::{has_landed, mark_breach, upload_breach};
@@ -104,7 +104,7 @@ fn watch(
     unders: &mut BTreeMap<u32, UnderWay>,
     entry: &Entry,
 ) -> Result<Option<Told>, NoMemory>
-    requires limit { 1 ≤ rules.page_limit }
+    requires lawful { IsLawful entry.now.op }
     requires kind { IsReplyTo entry.now.op entry.now.reply }
     requires small { entry.now.moment.ms < ulid_time_limit }
     requires waits { (seat : ℕ) → IsWaiting (get nat_cmp unders.old seat) }
@@ -208,21 +208,26 @@ pub(crate) fn late_refusal(
     alloc: Global,
     script: &Script,
     lasts: &BTreeMap<u32, u64>,
-    unders: &mut BTreeMap<u32, UnderWay>,
-    views: &mut BTreeMap<u32, u64>,
+    followed: &mut Followed,
     gateway: u32,
     entry: &Entry,
 ) -> Result<Option<Refusal>, NoMemory>
-    requires lawful { AreLawfulRules script.now.rules }
+    requires span { script.now.rules.ignore.ms ≤ longest_span }
+    requires lawful { IsLawful entry.now.op }
     requires kind { IsReplyTo entry.now.op entry.now.reply }
     requires small { entry.now.moment.ms < ulid_time_limit }
-    requires waits { (seat : ℕ) → IsWaiting (get nat_cmp unders.old seat) }
-    ensures { IfOk result (IsLateTold script.now lasts.now unders.old unders.new views.old views.new
+    requires waits { (seat : ℕ) → IsWaiting (get nat_cmp followed.old.unders seat) }
+    ensures { IfOk result (IsLateTold script.now lasts.now followed.old followed.new
         gateway entry.now) }
 {
-    let stale = staleness(views, gateway, entry, &script.rules);
-    let told = watch(alloc, rules_of(script, gateway), unders, entry)?;
-    keep_view(views, gateway, told)?;
+    let stale = staleness(&followed.views, gateway, entry, &script.rules);
+    let told = watch(
+        alloc,
+        rules_of(script, gateway),
+        &mut followed.unders,
+        entry,
+    )?;
+    keep_view(&mut followed.views, gateway, told)?;
     let last = is_last(lasts, entry);
     let slow = sync_lateness(told, last, entry.moment.ms, script.rules.ignore.ms);
     Ok(first_of(

@@ -3,6 +3,7 @@
 #![tactic(auto)]
 
 mod differing;
+mod followed;
 mod found;
 mod judging;
 mod laws;
@@ -18,4 +19,4 @@ mod watching;
 pub use found::{Breach, BreachRule};
 pub use laws::answers_are_one;
 pub use standing::Standing;
-pub use walking::find_breach;
+pub use walking::breach;

@@ -36,8 +36,7 @@ pub(crate) fn tables_of(
     script: &Script,
     journal: &[Entry],
 ) -> Result<Tables, NoMemory>
-    requires { IsLawfulScript script.now }
-    ensures { IfOk result (AreTablesOf script.now journal.now) }
+    ensures { IsLawfulScript script.now → IfOk result (AreTablesOf script.now journal.now) }
 {
     let (gateways, compactors) = seats_of(alloc, script)?;
     let begins = first_moments(alloc, journal)?;

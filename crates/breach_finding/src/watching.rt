@@ -5,7 +5,7 @@
 ghost use Rattle.std.specs.Prelude.{◌≡◌, ◌↔◌, ◌≤◌, ◌<◌, ℕ, List, [], ◌∷◌, Some, Ok, IfOk, IsTrue};
 ghost use Rattle.ulid_core.specs.Limits.{ulid_time_limit};
 ghost use Rattle.world_core.specs.Machines.{GoesOn};
-ghost use Rattle.world_core.specs.Operations.{IsReplyTo};
+ghost use Rattle.world_core.specs.Operations.{IsLawful, IsReplyTo};
 ghost use Rattle.world_core.specs.declared.entry.Entry.{Entry};
 ghost use Rattle.world_core.specs.declared.op.Op.TheVariants as op;
 ghost use Rattle.block_keys.specs.declared.key.Key.TheVariants as key;
@@ -203,7 +203,7 @@ fn goes_on(alloc: Global, w: UnderWay, e: &Entry) -> Result<Turn, NoMemory>
 
 /// Begins a sync with an entry that asks for the first page.
 fn begins(alloc: Global, rules: SyncRules, e: &Entry) -> Result<Turn, NoMemory>
-    requires limit { 1 ≤ rules.page_limit }
+    requires lawful { IsLawful e.now.op }
     requires kind { IsReplyTo e.now.op e.now.reply }
     requires small { e.now.moment.ms < ulid_time_limit }
     ensures turn { IfOk result (Begins rules e.now) }
@@ -226,7 +226,7 @@ pub(crate) fn take_turn(
     under: Option<UnderWay>,
     e: &Entry,
 ) -> Result<Turn, NoMemory>
-    requires limit { 1 ≤ rules.page_limit }
+    requires lawful { IsLawful e.now.op }
     requires kind { IsReplyTo e.now.op e.now.reply }
     requires small { e.now.moment.ms < ulid_time_limit }
     requires waits { IsWaiting under }

@@ -39,7 +39,7 @@ module _ (told : Contents) (ulid : ℕ) (holds : HoldsBytes told) where
   index_bytes files is = holds (key_text (Index ulid)) files.index is.index_is.file.stands
 
   segment_bytes : (files : BlockFiles) → IsLoaded told ulid files → AllByRecursion IsBytes files.segments
-  segment_bytes files is = all_bytes files.segments (λ place bytes at. holds (key_text (Segment ulid (place + 1))) bytes (is.segments_are place bytes at).stands)
+  segment_bytes files is = all_bytes files.segments (λ place bytes at. holds (key_text (Segment ulid (place + 1))) bytes (is.segments_are.files place bytes at).stands)
 
   -- the shelf has one list of files for it
   one_load : (files other : BlockFiles) → IsLoaded told ulid files → IsLoaded told ulid other → files ≡ other

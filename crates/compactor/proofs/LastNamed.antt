@@ -1,12 +1,13 @@
--- The last segment that series name, one series and one chunk after another.
-use Rattle.std.proofs.Common.{◌≡◌, ℕ, ◌+◌, ◌<◌, ◌≤◌, max, fold, List, [], ◌∷◌, ◌++◌, length, take, map, get_or, refl, sym, ap, ◌∙◌}
+-- The last segment that series name, one series and one chunk after another, and that each chunk stands in one that is named.
+use Rattle.std.proofs.Common.{◌≡◌, inl, inr, ℕ, ◌+◌, ◌<◌, ◌≤◌, Bool, true, false, max, fold, List, [], ◌∷◌, ◌++◌, length, Contains, Some, take, map, get_or, refl, sym, ap, ◌∙◌, arith}
 use Rattle.std.specs.List.{flat_map}
 use Rattle.std.proofs.lemmas.List.{take_more, take_all, append-nil, map-append}
 use Rattle.std.proofs.lemmas.List.Concat.{flat_map-append}
 use Rattle.std.proofs.lemmas.List.Sums.{fold-append}
+use Rattle.base.proofs.Membership.{into_flat_map, into_map, member_cases, no_member}
 use Rattle.index_parts.specs.declared.chunk_place.ChunkPlace.{ChunkPlace}
 use Rattle.index_parts.specs.declared.index_series.IndexSeries.{IndexSeries}
-use Rattle.compactor.specs.Named.{segment_number, last_named}
+use Rattle.compactor.specs.Named.{segment_number, last_named, if_few}
 
 pub chunks_start : (before : ℕ) (chunks : List ChunkPlace) → before ≡ fold max before (map segment_number (take 0 chunks))
 chunks_start before chunks = refl
@@ -38,3 +39,27 @@ named_more last more indexed i one d seen far lt at lent is =
 
 pub named_end : (last : ℕ) (indexed : List IndexSeries) (i : ℕ) → last ≡ last_named (take i indexed) → length indexed ≤ i → last ≡ last_named indexed
 named_end last indexed i far le = far ∙ ap (λ (xs : List IndexSeries). last_named xs) (take_all i indexed le)
+
+-- ---- what is named
+
+pub grows : (numbers : List ℕ) (before : ℕ) → before ≤ fold max before numbers
+grows [] before = omega arith
+grows (n ∷ numbers) before = let up = grows numbers (max before n) in omega (arith, up)
+
+pub reached : (numbers : List ℕ) (before n : ℕ) → Contains numbers n → n ≤ fold max before numbers
+reached [] before n among = absurd (no_member n among)
+reached (m ∷ numbers) before n among = elim (member_cases m n numbers among) [
+  | inl same ↦ let up = grows numbers (max before m) in omega (arith, up, same)
+  | inr later ↦ reached numbers (max before m) n later
+]
+
+pub few_is : (b : Bool) (n count : ℕ) → if_few b n ≡ Some count → n ≡ count
+few_is true n count is = cc (is)
+few_is false n count is = absurd (cc (is))
+
+-- each chunk of an index stands in a segment that it names
+pub chunk_named : (indexed : List IndexSeries) (one : IndexSeries) (place : ChunkPlace) → Contains indexed one → Contains one.chunks place → place.segment < last_named indexed
+chunk_named indexed one place among inside =
+    let places : List ChunkPlace = flat_map (λ (s : IndexSeries). s.chunks) indexed in
+    let up = reached (map segment_number places) 0 (segment_number place) (into_map segment_number places place (into_flat_map (λ (s : IndexSeries). s.chunks) indexed one place among inside)) in
+    omega (arith, up)

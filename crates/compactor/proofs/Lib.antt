@@ -1,7 +1,7 @@
 pub mod MarkSteps
 pub mod MarkRooms
 mod Expired
-mod LastNamed
+pub mod LastNamed
 pub mod ReadSteps
 mod PutTogether
 mod Refusing

@@ -1,13 +1,20 @@
 -- What becomes of blocks that were read.
-use Rattle.std.proofs.Common.{◌≡◌, ◌≤◌, ℕ, suc, List, [], ◌∷◌, map, length, refl, sym, ap, ◌∙◌, arith}
-use Rattle.std.specs.List.{AllZip}
+use Rattle.std.proofs.Common.{◌≡◌, ◌≤◌, ℕ, suc, Bool, true, false, List, [], ◌∷◌, map, length, Some, Result, Ok, Err, refl, sym, ap, subst, ◌∙◌, arith}
+use Rattle.std.specs.Prelude.{nat_le}
+use Rattle.std.specs.List.{AllByRecursion, AllZip}
+use Rattle.std.proofs.lemmas.Bool.{leb-true}
 use Rattle.label_sets.specs.declared.label.Label.{Label}
+use Rattle.index_parts.specs.declared.index_series.IndexSeries.{IndexSeries}
+use Rattle.index_v2.specs.declared.refusal.IndexRefusal.{IndexRefusal}
+use Rattle.block_content.specs.ContentReading.{index_at}
 use Rattle.block_meta.specs.declared.block_plan.BlockPlan.{BlockPlan}
 use Rattle.block_meta.specs.declared.block_files.BlockFiles.{BlockFiles}
 use Rattle.vertical_merge.specs.Compacted.{IsCompactedPlan}
 use Rattle.std.proofs.lemmas.List.{length-map}
-use Rattle.compactor.specs.Inputs.{IsInput}
-use Rattle.compactor.specs.InputFiles.{numbers_of, AreFiles}
+use Rattle.compactor.specs.Inputs.{IsInput, HasNamed, HasFew}
+use Rattle.compactor.specs.InputFiles.{numbers_of, AreFiles, AreNamed}
+use Rattle.compactor.specs.Named.{last_named, if_few, named_by, named_segments}
+use Rattle.compactor.specs.declared.input.Read.{Read}
 use Rattle.compactor.specs.declared.input_files.Numbers.{Numbers}
 use Rattle.block_writing.specs.WrittenMeta.{meta_with}
 use Rattle.block_meta.specs.MetaFields.{MetaFields}
@@ -24,8 +31,29 @@ same_count (i ∷ inputs) (b ∷ bs) are = ap (λ n. suc n) (same_count inputs b
 pub blocks_many : (inputs : List Input) (blocks : List BlockFiles) → AllZip IsInput inputs blocks → 2 ≤ length inputs → 2 ≤ length blocks
 blocks_many inputs blocks are many = omega (arith, many, same_count inputs blocks are)
 
-pub numbers_many : (inputs : List Input) (blocks : List BlockFiles) (numbers : List Numbers) → AreFiles inputs blocks numbers → length numbers ≡ length blocks
-numbers_many inputs blocks numbers are = ap length are.numbers_are ∙ length-map inputs numbers_of ∙ sym (same_count inputs blocks are.read)
+-- what an index names is no more than a block may have
+most : (b : Bool) (count n : ℕ) → (b ≡ true → count ≤ 999_999) → if_few b count ≡ Some n → n ≤ 999_999
+most true count n le is = let same : count ≡ n = cc (is) in subst (λ (m : ℕ). m ≤ 999_999) same (le refl)
+most false count n le is = absurd (cc (is))
+
+few_by : (read : Result (List IndexSeries) IndexRefusal) (n : ℕ) → named_by read ≡ Some n → n ≤ 999_999
+few_by (Err e) n is = absurd (cc (is))
+few_by (Ok indexed) n is = most (nat_le (last_named indexed) 999_999) (last_named indexed) n (leb-true _ _) is
+
+pub named_few : (inputs : List Input) → AllByRecursion HasNamed inputs → AllByRecursion HasFew inputs
+named_few [] named = tt
+named_few (i ∷ inputs) named = (few_by (index_at i.index.bytes) (length i.segments) named.0, named_few inputs named.1)
+
+-- of each block just the segments were read that its index names
+each_named : (inputs : List Input) (blocks : List BlockFiles) → AllByRecursion HasNamed inputs → AllZip IsInput inputs blocks → AllZip AreNamed blocks (map numbers_of inputs)
+each_named [] [] named are = tt
+each_named [] (b ∷ bs) named are = absurd are
+each_named (i ∷ inputs) [] named are = absurd are
+each_named (i ∷ inputs) (b ∷ bs) named are =
+    (ap named_segments are.0.index ∙ named.0 ∙ ap (λ (n : ℕ). Some n) (sym (length-map i.segments (λ (s : Read). s.number))), each_named inputs bs named.1 are.1)
+
+pub all_named : (inputs : List Input) (blocks : List BlockFiles) (numbers : List Numbers) → AllByRecursion HasNamed inputs → AreFiles inputs blocks numbers → AllZip AreNamed blocks numbers
+all_named inputs blocks numbers named are = subst (AllZip AreNamed blocks) (sym are.numbers_are) (each_named inputs blocks named are.read)
 
 abbrev pub given_so : (inputs : List Input) (blocks : List BlockFiles) (ulid : ℕ) (labels : List Label) (plan : BlockPlan) → AllZip IsInput inputs blocks
     → IsCompactedPlan (map (λ (b : BlockFiles). b.meta) blocks) ulid labels plan → Given ulid labels inputs

@@ -1,6 +1,6 @@
 -- The entry that shows why a block is refused.
-use Rattle.std.proofs.Common.{◌≡◌, ◌<◌, ℕ, zero, suc, List, [], ◌∷◌, length, map, None, Some, Result, Ok, Err, IfOk, refl, sym, ap, subst, ◌∙◌, ◌⊎◌, inl, inr, arith}
-use Rattle.std.specs.Prelude.{slice_get}
+use Rattle.std.proofs.Common.{◌≡◌, ◌<◌, ℕ, zero, suc, List, [], ◌∷◌, length, map, Contains, None, Some, Result, Ok, Err, IfOk, refl, sym, ap, subst, ◌∙◌, ◌⊎◌, inl, inr, arith}
+use Rattle.std.specs.Prelude.{slice_get, nat_le}
 use Rattle.std.specs.List.{AllZip}
 use Rattle.base.specs.declared.memory.NoMemory.{NoMemory as OutOfMemory}
 use Rattle.base.proofs.Binds.{ok_is}
@@ -18,10 +18,13 @@ use Rattle.block_content.specs.declared.check_refusal.CheckRefusal.TheVariants.{
 use Rattle.block_content.specs.declared.check_refusal.CheckRefusal.TheVariants as check
 use Rattle.block_content.specs.declared.chunk_cause.ChunkCause.{ChunkCause}
 use Rattle.base.proofs.FirstLaws.{some_is}
+use Rattle.base.proofs.Membership.{contains_first, contains_later}
 use Rattle.block_content.proofs.TimesAndOrder.{index_again}
 use Rattle.block_merging.specs.Inputs.{IsFirstRefused}
 use Rattle.compactor.specs.Inputs.{IsInput}
-use Rattle.compactor.specs.InputFiles.{numbers_of, IsShownBy, NamesChunk, IsPlaceOf}
+use Rattle.compactor.specs.InputFiles.{numbers_of, AreNamed, IsShownBy, NamesChunk, IsPlaceOf}
+use Rattle.compactor.specs.Named.{named_by, named_segments, last_named}
+use Rattle.compactor.proofs.LastNamed.{few_is, chunk_named}
 use Rattle.compactor.specs.Merges.{WasReadAt, IsRefused}
 use Rattle.compactor.specs.declared.input.Input.{Input}
 use Rattle.compactor.specs.declared.input_files.Numbers.{Numbers}
@@ -135,10 +138,38 @@ block_there blocks place at cause less is first none =
     let both = sym none ∙ ap (slice_get blocks) (stands_for_itself place at less is) ∙ first.stands in
     absurd cc
 
--- a list of the same length has a member at the same place
-pub member_there : {A B : Type 0} (xs : List A) (ys : List B) (k : ℕ) (y : B) → length xs ≡ length ys → slice_get ys k ≡ Some y → slice_get xs k ≡ None → ⊥
-member_there [] [] k y same there none = absurd cc
-member_there [] (z ∷ ys) k y same there none = absurd (omega (arith, same))
-member_there (x ∷ xs) [] k y same there none = absurd (omega (arith, same))
-member_there (x ∷ xs) (z ∷ ys) zero y same there none = absurd cc
-member_there (x ∷ xs) (z ∷ ys) (suc k) y same there none = member_there xs ys k y (omega (arith, same)) there none
+-- of each block that stands in the list there are the numbers of its entries
+pub numbers_there : (blocks : List BlockFiles) (numbers : List Numbers) (k : ℕ) (block : BlockFiles) → AllZip AreNamed blocks numbers → slice_get blocks k ≡ Some block → slice_get numbers k ≡ None → ⊥
+numbers_there [] numbers k block named there none = absurd cc
+numbers_there (b ∷ blocks) [] k block named there none = absurd named
+numbers_there (b ∷ blocks) (n ∷ numbers) zero block named there none = absurd cc
+numbers_there (b ∷ blocks) (n ∷ numbers) (suc k) block named there none = numbers_there blocks numbers k block named.1 there none
+
+pub named_at : (blocks : List BlockFiles) (numbers : List Numbers) (k : ℕ) (block : BlockFiles) (read : Numbers) → AllZip AreNamed blocks numbers → slice_get blocks k ≡ Some block → slice_get numbers k ≡ Some read → AreNamed block read
+named_at [] numbers k block read named there told = absurd cc
+named_at (b ∷ blocks) [] k block read named there told = absurd named
+named_at (b ∷ blocks) (n ∷ numbers) zero block read named there told =
+    let one : b ≡ block = some_is b block there in
+    let its : n ≡ read = some_is n read told in
+    subst (λ (x : BlockFiles). AreNamed x read) one (subst (AreNamed b) its named.0)
+named_at (b ∷ blocks) (n ∷ numbers) (suc k) block read named there told = named_at blocks numbers k block read named.1 there told
+
+-- a list has a member at a place below its length
+member_there : {A : Type 0} (xs : List A) (k : ℕ) → k < length xs → slice_get xs k ≡ None → ⊥
+member_there [] k low none = absurd (omega (arith, low))
+member_there (x ∷ xs) zero low none = absurd cc
+member_there (x ∷ xs) (suc k) low none = member_there xs k (omega (arith, low)) none
+
+is_among : {A : Type 0} (xs : List A) (k : ℕ) (x : A) → slice_get xs k ≡ Some x → Contains xs x
+is_among [] k x there = absurd cc
+is_among (y ∷ ys) zero x there = subst (λ (z : _). Contains (z ∷ ys) x) (sym (some_is y x there)) (contains_first x ys)
+is_among (y ∷ ys) (suc k) x there = contains_later y x ys (is_among ys k x there)
+
+-- the segment of a chunk that the index names was read
+pub segment_there : (block : BlockFiles) (read : Numbers) (series chunk : ℕ) (bytes : List ℕ) (place : ChunkPlace) → bytes ≡ block.index → IsBytes bytes → NamesChunk bytes series chunk → IsPlaceOf bytes series chunk place → AreNamed block read → slice_get read.segments place.segment ≡ None → ⊥
+segment_there block read series chunk bytes place bytes_are is_bytes names places named none =
+    let same : place ≡ names.place = places names.indexed names.one names.place names.at_series names.at_chunk names.index_is names.series_is names.chunk_is names.stands names.names in
+    let told : named_by (Ok names.indexed) ≡ Some (length read.segments) = ap named_by (sym (index_again bytes names.indexed is_bytes names.index_is)) ∙ ap named_segments bytes_are ∙ named in
+    let last : last_named names.indexed ≡ length read.segments = few_is (nat_le (last_named names.indexed) 999_999) (last_named names.indexed) (length read.segments) told in
+    let low = chunk_named names.indexed names.one names.place (is_among names.indexed names.at_series names.one names.stands) (is_among names.one.chunks names.at_chunk names.place names.names) in
+    member_there read.segments names.place.segment (omega (arith, low, last)) (ap (λ (p : ChunkPlace). slice_get read.segments p.segment) (sym same) ∙ none)

@@ -1,5 +1,5 @@
 -- The files of blocks that were read, and the entries at which they were read.
-use Rattle.std.specs.Prelude.{◌≡◌, ℕ, List, map, Some, slice_get}
+use Rattle.std.specs.Prelude.{◌≡◌, ℕ, List, map, length, Some, slice_get}
 use Rattle.std.specs.List.{AllByRecursion, AllZip}
 use Rattle.base.specs.Grammar.{IsBytes}
 use Rattle.block_meta.specs.declared.block_files.BlockFiles.{BlockFiles}
@@ -11,6 +11,7 @@ use Rattle.block_content.specs.ContentRefusals.{HasBadChunk}
 use Rattle.block_content.specs.declared.check_refusal.CheckRefusal.{CheckRefusal}
 use Rattle.block_content.specs.declared.check_refusal.CheckRefusal.TheVariants.{BadChunk}
 use Rattle.compactor.specs.Inputs.{IsInput}
+use Rattle.compactor.specs.Named.{named_segments}
 use Rattle.compactor.specs.declared.input.Input.{Input}
 use Rattle.compactor.specs.declared.input.Read.{Read}
 use Rattle.compactor.specs.declared.input_files.Numbers.{Numbers}
@@ -28,6 +29,10 @@ pub record AreSegments (segments : List Read) (files : List (List ℕ)) (numbers
   pub files_are : files ≡ map (λ segment. segment.bytes) segments
   pub numbers_are : numbers ≡ map (λ segment. segment.number) segments
   pub bytes : AllByRecursion IsBytes files
+
+-- the segments of the block that were read are just those that its index names
+abbrev pub AreNamed : BlockFiles → Numbers → Type 0
+AreNamed block read = named_segments block.index ≡ Some (length read.segments)
 
 -- the entry at which the cause of a refusal was read
 abbrev pub IsShownBy : Numbers → BlockFiles → CheckRefusal → ℕ → Type 0

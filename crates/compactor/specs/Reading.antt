@@ -7,7 +7,7 @@ use Rattle.block_keys.specs.declared.key.Key.TheVariants as key
 use Rattle.block_meta.specs.declared.meta.Meta.{Meta}
 use Rattle.world_core.specs.Plans.{Plan, ends, gets}
 use Rattle.world_core.specs.declared.entry.Entry.{Entry}
-use Rattle.compactor.specs.Inputs.{HasFew}
+use Rattle.compactor.specs.Inputs.{HasNamed}
 use Rattle.compactor.specs.Named.{named_segments}
 use Rattle.compactor.specs.declared.input.Input.{Input}
 use Rattle.compactor.specs.declared.input.Read.{Read}
@@ -79,7 +79,7 @@ block_of inputs waiting meta = reads_block read_ends meta (blocks_after inputs w
 pub record MayMerge (all : Gathered) : Type 0 where
   pub moment : all.moment.ms < ulid_time_limit
   pub many : 2 ≤ length all.inputs
-  pub few : AllByRecursion HasFew all.inputs
+  pub named : AllByRecursion HasNamed all.inputs
 
 abbrev pub FitsEnd : ReadsEnd → Type 0
 FitsEnd (read.Done all) = MayMerge all

@@ -7,9 +7,9 @@ ghost use Rattle.index_parts.specs.IndexFile.{IsIndex};
 ghost use Rattle.block_content.specs.ContentReading.{fitted};
 ghost use Rattle.block_content.specs.ContentRefusals.{RefusesContent};
 ghost use Rattle.block_merging.specs.Inputs.{IsFirstRefused};
-ghost use Rattle.compactor.specs.Inputs.{IsInput, HasFew};
+ghost use Rattle.compactor.specs.Inputs.{IsInput, HasNamed};
 ghost use Rattle.vertical_merge.specs.Compacted.{IsCompactedPlan};
-ghost use Rattle.compactor.specs.InputFiles.{numbers_of, AreFiles, IsShownBy, NamesChunk, IsPlaceOf};
+ghost use Rattle.compactor.specs.InputFiles.{numbers_of, AreFiles, AreNamed, IsShownBy, NamesChunk, IsPlaceOf};
 ghost use Rattle.compactor.specs.Merges.{IsMerging, IsRefused};
 ghost use Rattle.compactor.specs.declared.input.Input.{Input};
 
@@ -47,7 +47,7 @@ pub fn merge_inputs(
     inputs: InputList,
 ) -> Result<Merging, NoMemory>
     requires many { 2 ≤ length inputs }
-    requires few { AllByRecursion HasFew inputs }
+    requires named { AllByRecursion HasNamed inputs }
     ensures { IfOk result (IsMerging replicas.now ulid labels.now inputs) }
 {
     let files = all_files(alloc, inputs)?;
@@ -65,7 +65,7 @@ fn merge_files(
     files: &InputFiles,
 ) -> Result<Merging, NoMemory>
     requires many { 2 ≤ length files.now.blocks }
-    requires numbered { length files.now.numbers ≡ length files.now.blocks }
+    requires named { AllZip AreNamed files.now.blocks files.now.numbers }
     ensures { (inputs : List Input) → AreFiles inputs files.now.blocks files.now.numbers
         → IfOk result (IsMerging replicas.now ulid labels.now inputs) }
 {
@@ -119,7 +119,7 @@ fn refused_at(
     cause: CheckRefusal,
 ) -> Result<u64, NoMemory>
     requires refused { (at : ℕ) × IsFirstRefused blocks.now at cause × (place ≡ fitted at) }
-    requires many { length numbers.now ≡ length blocks.now }
+    requires named { AllZip AreNamed blocks.now numbers.now }
     ensures { IfOk result (λ number. (inputs : List Input) → AllZip IsInput inputs blocks.now
         → numbers.now ≡ map numbers_of inputs → IsRefused inputs blocks.now number) }
 {
@@ -143,7 +143,8 @@ fn number_of(
     read: &Numbers,
     cause: CheckRefusal,
 ) -> Result<u64, NoMemory>
-    requires { RefusesContent block.now cause }
+    requires refused { RefusesContent block.now cause }
+    requires named { AreNamed block.now read.now }
     ensures { IfOk result (IsShownBy read.now block.now cause) }
 {
     let CheckRefusal::BadChunk {
@@ -157,8 +158,7 @@ fn number_of(
     let place = place_of(alloc, block.index.bytes(), series, chunk)?;
     match read.segments.get(place.segment as usize) {
         Some(number) => Ok(*number),
-        // An index that names a segment behind those that were read tells of a block of which too little was read.
-        None => Err(NoMemory),
+        None => unreachable!(),
     }
 }
 
@@ -194,7 +194,8 @@ fn read_again(alloc: Global, index: &[u8]) -> Result<List<LentSeries<'_>>, NoMem
 /// The place of a chunk of an index, by the numbers that a refusal gives of its series and of itself.
 fn place_of(alloc: Global, index: &[u8], series: u32, chunk: u32) -> Result<ChunkPlace, NoMemory>
     requires { NamesChunk index.now series chunk }
-    ensures { IfOk result (IsPlaceOf index.now series chunk) }
+    ensures place { IfOk result (IsPlaceOf index.now series chunk) }
+    ensures bytes { IfOk result (λ place. IsBytes index.now) }
 {
     // A number of 32 bits stands for itself below the greatest one. No memory holds an index of so many series or chunks.
     if series == u32::MAX || chunk == u32::MAX {

@@ -11,7 +11,8 @@ ghost use Rattle.world_core.specs.declared.op.Op.{Op};
 ghost use Rattle.world_core.specs.declared.entry.Entry.{Entry};
 ghost use Rattle.block_keys.specs.declared.key.Key.TheVariants as key;
 ghost use Rattle.world_core.specs.Leads.{after_entry, LeadsBy};
-ghost use Rattle.compactor.specs.ReadRoom.{last_segment, most_segments, others_of};
+ghost use Rattle.compactor.specs.Named.{named_segments};
+ghost use Rattle.compactor.specs.ReadRoom.{last_segment, off, most_off, stage_off, others_of};
 ghost use Rattle.compactor.specs.declared.reads_end.ReadsEnd.{ReadsEnd};
 
 use crate::input::{Input, InputList, Read, ReadList};
@@ -49,7 +50,8 @@ pub struct Reads {
     /// Those that were read.
     inputs: InputList,
     ghost room: { last_segment stage ≤ segment_limit },
-    ghost few: { most_segments inputs ≤ segment_limit },
+    ghost named: { most_off inputs ≤ 0 },
+    ghost names: { stage_off stage ≤ 0 },
     ghost many: { others_of stage ≤ length inputs + length waiting.items },
 }
 
@@ -128,6 +130,8 @@ impl Reads {
         requires answer { IsAnswer (Op.Get
             (key.Segment input.meta.ulid (length input.segments + 1))) seen }
         requires room { length input.segments + 1 + more ≤ segment_limit }
+        requires named { off (named_segments input.index.bytes)
+            (length input.segments + 1 + more) ≤ 0 }
         ensures leads { (seat : ℕ) (op : Op) → LeadsBy left_of asked_read
             (after_entry (left_at (ReadStage.Segmenting input more) self.old.inputs
             self.old.waiting.items) (entry_of seat op seen)) result self.new }
@@ -158,6 +162,8 @@ impl Reads {
     ) -> Result<Act<ReadsEnd>, NoMemory>
         requires many { 1 ≤ length self.old.inputs + length self.old.waiting.items }
         requires room { length input.segments + more ≤ segment_limit }
+        requires named { off (named_segments input.index.bytes)
+            (length input.segments + more) ≤ 0 }
         requires moment { moment.ms < ulid_time_limit }
         ensures leads { (last : Entry) → last.seq ≡ number → last.moment ≡ moment
             → LeadsBy left_of asked_read

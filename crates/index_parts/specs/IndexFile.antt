@@ -1,5 +1,5 @@
 -- An index of version 2, apart from reading and writing: which bytes hold which series.
-use Rattle.std.specs.Prelude.{◌≡◌, ◌≢◌, ◌⊎◌, ℕ, ◌+◌, ◌*◌, ◌≤◌, ◌==◌, List, [], ◌∷◌, ◌++◌, length, map, take, slice_get, Option, Some, None, MatchBool}
+use Rattle.std.specs.Prelude.{◌≡◌, ◌≢◌, ◌⊎◌, ℕ, ◌+◌, ◌*◌, ◌≤◌, ◌==◌, List, [], ◌∷◌, ◌++◌, length, map, take, sum_by, slice_get, Option, Some, None, MatchBool}
 use Rattle.std.specs.declared.cmp.Ordering.{Ordering}
 use Rattle.std.specs.List.{Contains}
 use Rattle.std.specs.List.Sorted.{IsStrictlySortedBy}
@@ -92,6 +92,10 @@ pub record IsListOf (index : List ℕ) (listed : List (ℕ × IndexSeries)) (row
   pub only : (number : ℕ) → Contains numbers number → (series : IndexSeries) × Contains listed (number, series) × BelongsTo row series
   pub all : (number : ℕ) (series : IndexSeries) → Contains listed (number, series) → BelongsTo row series → Contains numbers number
 
+-- such a list has no bytes left over behind its numbers
+abbrev pub IsFullListOf : List ℕ → List (ℕ × IndexSeries) → PostingsRow → Type 0
+IsFullListOf index listed row = (list : IsListOf index listed row) × (list.stands.left_over ≡ [])
+
 -- the list of the table's first row; where there is no row there is no series
 abbrev pub AreListed : List ℕ → List PostingsRow → List ℕ → Type 0
 AreListed index [] numbers = numbers ≡ []
@@ -112,10 +116,15 @@ pub record AreSeriesOf (opened : Opened) (listed : List (ℕ × IndexSeries)) : 
   pub apart : InOrder (StandsBehind opened.bytes) (map (λ one. one.0) listed)
   pub ascend : IsStrictlySortedBy compare_series (map (λ one. one.1) listed)
 
--- The lists of all rows, each as often as a row names it, have no more than eight bytes for each byte before the table. So
--- their bytes can be read once for each row. Lists that have no bytes left over behind their numbers never come near it.
-abbrev pub AreFewLists : Opened → Type 0
-AreFewLists opened = lists_size (file opened.bytes) opened.rows ≤ 8 * opened.toc.postings_table
+-- how many labels series have together
+abbrev pub labels_of : List IndexSeries → ℕ
+labels_of list = sum_by (λ (series : IndexSeries). length series.labels) list
+
+-- The lists of all rows, each as often as a row names it, have no more than eight bytes for each row, each label of a series and
+-- each byte before the table. So their bytes can be read once for each row. Lists that have no bytes left over behind their numbers
+-- never have more, wherever the table stands (law `full_lists_are_few` of index_v2).
+abbrev pub AreFewLists : Opened → List IndexSeries → Type 0
+AreFewLists opened list = lists_size (file opened.bytes) opened.rows ≤ 8 * (opened.toc.postings_table + length opened.rows + labels_of list)
 
 -- The bytes are an index of these series. Each row of the table lists exactly its series, and each label of a series has its
 -- row.
@@ -128,7 +137,7 @@ pub record IsIndex (index : List ℕ) (list : List IndexSeries) : Type 0 where
   pub series_are : AreSeriesOf opened listed
   pub rows_are : (row : PostingsRow) → Contains opened.rows row → IsListOf opened.bytes listed row
   pub complete : (number : ℕ) (series : IndexSeries) → Contains listed (number, series) → (label : Label) → Contains series.labels label → HasRow opened.rows label
-  pub lists_few : AreFewLists opened
+  pub lists_few : AreFewLists opened list
 
 -- In an index of a list, these are exactly the numbers of the listed series with a name and a value; two empty texts stand
 -- for all series.

@@ -1,7 +1,6 @@
-//! How the postings table is asked: for a name and a value, or for where the rows of a name begin. The test of a whole
-//! index asks for neighbours one after another, so it hands in a guess at the place.
+//! How the postings table is asked: for a name and a value, or for where the rows of a name begin.
 
-ghost use Rattle.std.specs.Prelude.{◌≡◌, ◌<◌, ◌^◌, [], length, option_map, slice_get, IsTrue, IfOk, IfErr};
+ghost use Rattle.std.specs.Prelude.{◌≡◌, ◌<◌, ◌^◌, [], length, option_map, slice_get, IfOk, IfErr};
 ghost use Rattle.std.specs.List.Sorted.{IsStrictlySortedBy};
 ghost use Rattle.index_parts.specs.Rows.{compare_rows};
 ghost use Rattle.index_parts.specs.RowOrder.{compare_row, IsRowAt, StandsAt, BeginsAt};
@@ -84,33 +83,6 @@ impl<'a> Rows<'a> {
         }
     }
 
-    /// Whether the row of a name and a value stands at a place.
-    fn is_at(&self, place: usize, name: &str, value: &str) -> bool
-        ensures found { IsTrue result → IsRowAt self.now name.now value.now place }
-        ensures ascending { IsStrictlySortedBy compare_rows self.now }
-    {
-        match &self.table {
-            None => false,
-            Some(table) => is_at(table, place, name, value),
-        }
-    }
-
-    /// What `place_of` finds, which is looked for at a guess first and at the place behind it.
-    pub fn place_near(&self, name: &str, value: &str, guess: usize) -> Result<usize, usize>
-        ensures found { IfOk result (λ place. IsRowAt self.now name.now value.now place) }
-        ensures absent { IfErr result (λ place. StandsAt self.now name.now value.now place) }
-        ensures ascending { IsStrictlySortedBy compare_rows self.now }
-    {
-        if self.is_at(guess, name, value) {
-            return Ok(guess);
-        }
-        let next = guess.wrapping_add(1);
-        if self.is_at(next, name, value) {
-            return Ok(next);
-        }
-        self.place_of(name, value)
-    }
-
     /// The place at which the rows of a name begin, or would begin.
     pub fn first_of(&self, name: &str) -> usize
         ensures begins { BeginsAt self.now name.now result }
@@ -134,16 +106,6 @@ fn compare_row(row: (&str, &str, u64), name: &str, value: &str) -> Ordering
     match row.0.cmp(name) {
         Ordering::Equal => row.1.cmp(value),
         order => order,
-    }
-}
-
-/// Whether the row of a name and a value stands at a place.
-fn is_at(rows: &PostingsTable<'_>, place: usize, name: &str, value: &str) -> bool
-    ensures { IsTrue result → IsRowAt rows.now name.now value.now place }
-{
-    match rows.get(place) {
-        Some(row) => row.1 == value && row.0 == name,
-        None => false,
     }
 }
 

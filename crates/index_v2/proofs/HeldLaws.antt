@@ -127,7 +127,7 @@ lists_same here index is (row ∷ rows) lie =
     rw (list_of_index here index row.offset is (lie row (contains_first _ _)), lists_same here index is rows (λ one has. lie one (contains_later _ _ _ has))) refl
 
 -- where no series is to be read
-none_listed : (held : Held) → postings_of held [] [] ≡ Ok [] → whole_at held ≡ (few_at held.toc held.lists held.rows >> (differing_at held.lists held.rows [] >>= λ found. unless_differ found >> Ok []))
+none_listed : (held : Held) → postings_of held [] [] ≡ Ok [] → whole_at held ≡ (few_at held.toc held.lists held.rows [] >> (differing_at held.lists held.rows [] >>= λ found. unless_differ found >> Ok []))
 unfolding whole_at present_at
 none_listed _ none = rw (none, nothing_left) refl
 
@@ -141,7 +141,7 @@ none_same held opened is lie none =
     let there = ap (λ rows. list_of (file opened.bytes) (row_of rows [] [])) (sym is.rows_are) ∙ sym first ∙ none in
     let lists = lists_same _ _ is.lists_are _ lie ∙ ap (lists_at (file opened.bytes)) is.rows_are in
     none_listed _ none
-    ∙ ap₂ (λ (t : Result (Unit {0}) IndexRefusal) (r : Result (Option ℕ) IndexRefusal). t >> (r >>= λ found. unless_differ found >> Ok [])) (few_same held.lists opened.bytes held.rows opened.rows held.toc opened.toc is.lists_are lie is.rows_are is.toc_is) (differing_same held.lists (file opened.bytes) held.rows opened.rows lists is.rows_are)
+    ∙ ap₂ (λ (t : Result (Unit {0}) IndexRefusal) (r : Result (Option ℕ) IndexRefusal). t >> (r >>= λ found. unless_differ found >> Ok [])) (few_same held.lists opened.bytes held.rows opened.rows held.toc opened.toc [] is.lists_are lie is.rows_are is.toc_is) (differing_same held.lists (file opened.bytes) held.rows opened.rows lists is.rows_are)
     ∙ sym (none_listed _ there)
 
 -- where the first list is refused, or a section that its series need is absent

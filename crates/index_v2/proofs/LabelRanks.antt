@@ -1,18 +1,14 @@
 -- The ranks of a series' labels, read from its symbol numbers; and labels whose order is told by numbers.
 use Rattle.std.proofs.Common.{◌≡◌, ℕ, zero, suc, ◌+◌, ◌*◌, ◌^◌, ◌<◌, List, [], ◌∷◌, ◌++◌, length, map, Some, Result, Ok, Err, refl, sym, ap, subst, ◌∙◌, arith, ◌⊎◌, inl, inr}
-use Rattle.std.specs.Prelude.{slice_get, unwrap_or, IfSome, IfOk, IsErrAnd, nat_lt, not}
-use Rattle.std.specs.Ordering.{is_lt, nat_cmp}
-use Rattle.std.specs.declared.cmp.Ordering.{Ordering}
-use Rattle.std.proofs.lemmas.Bool.{lt-ltb, cases_lt, true≢false}
+use Rattle.std.specs.Prelude.{slice_get}
+use Rattle.std.proofs.lemmas.Bool.{lt-ltb}
 use Rattle.std.proofs.lemmas.List.{map_push, length-append}
-use Rattle.std.proofs.lemmas.Option.{slice_get_within, slice_get-get_or, same_Some}
-use Rattle.base.specs.Reading.{◌>>=◌, Gives}
+use Rattle.std.proofs.lemmas.Option.{slice_get_within, same_Some}
 use Rattle.base.specs.Members.{members_at}
 use Rattle.base.proofs.Binds.{bind_ok, ok_is}
 use Rattle.base.proofs.Counted.{members_more, members_stop}
 use Rattle.wire_bytes.specs.Position.{Position}
 use Rattle.label_sets.specs.declared.label.Label.{Label}
-use Rattle.label_sets.specs.Labels.{IsLabelSet, compare_texts}
 use Rattle.index_parts.specs.declared.refusal.PartRefusal.{PartRefusal}
 use Rattle.index_parts.specs.declared.raw_series.RawLabel.{RawLabel}
 use Rattle.index_parts.specs.declared.index_series.IndexSeries.{IndexSeries}

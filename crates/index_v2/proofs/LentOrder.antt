@@ -1,22 +1,17 @@
--- Labels that an index lends: their order, the value under a name, and the walks over them and over lent series.
-use Rattle.std.proofs.Common.{◌≡◌, ℕ, zero, suc, ◌+◌, ◌<◌, ◌≤◌, Bool, true, false, Option, None, Some, List, [], ◌∷◌, ◌++◌, length, map, take, drop, get_or, refl, sym, ap, ◌∙◌, arith}
+-- Labels that an index lends: their order; and series that are copied.
+use Rattle.std.proofs.Common.{◌≡◌, ℕ, zero, suc, ◌+◌, ◌<◌, ◌≤◌, true, false, List, [], ◌∷◌, ◌++◌, length, map, take, drop, get_or, refl, sym, ap, ◌∙◌, arith}
 use Rattle.std.specs.declared.cmp.Ordering.{Ordering}
 use Rattle.std.specs.declared.cmp.Ordering.TheVariants.{Less, Equal, Greater}
 use Rattle.std.specs.Ordering.{ordering_then, is_eq}
-use Rattle.std.specs.Str.{bytes_eq}
 use Rattle.std.proofs.lemmas.Bool.{true≢false}
-use Rattle.std.proofs.lemmas.List.{take_more, drop_more, drop_all, length-map}
+use Rattle.std.proofs.lemmas.List.{take_more, drop_more, drop_all}
 use Rattle.base.proofs.Lists.{drop_none}
 use Rattle.base.proofs.Bools.{Equal-from_is_eq}
 use Rattle.label_sets.specs.declared.label.Label.{Label}
-use Rattle.label_sets.specs.Labels.{compare_labels, compare_sets, value_of}
-use Rattle.label_sets.proofs.LabelValues.{value_nil}
-use Rattle.index_parts.specs.declared.postings_row.PostingsRow.{PostingsRow}
+use Rattle.label_sets.specs.Labels.{compare_labels, compare_sets}
 use Rattle.index_parts.specs.declared.index_series.IndexSeries.{IndexSeries}
 use Rattle.index_v2.specs.declared.lent_series.LentLabel.{LentLabel}
 use Rattle.index_v2.specs.LentLabels.{as_label}
-use Rattle.index_v2.specs.WholeReading.{gap_from, earlier_place}
-use Rattle.index_v2.proofs.Differences.{GapsSoFar, gaps_step}
 
 -- ---- their order
 
@@ -75,51 +70,12 @@ is_front _ other place all longer h =
 pub are_equal : (one other : List LentLabel) (place : ℕ) → length one ≤ place → length other ≤ length one → SameSoFar one other place → Equal ≡ compared one other
 are_equal _ other place all shorter h = sym (h.rest ∙ ap (λ l. compared l (drop place other)) (drop_all _ _ all) ∙ ap (compared []) (drop_all _ other (omega arith)))
 
--- ---- the value under a name
-
--- none of so many of the first labels has the name
-pub record NoneNamed (labels : List LentLabel) (name : List ℕ) (place : ℕ) : Type 0 where
-  pub rest : value_of (map as_label labels) name ≡ value_of (map as_label (drop place labels)) name
-
-pub none_named : (labels : List LentLabel) (name : List ℕ) → NoneNamed labels name 0
-none_named _ name = record { rest = sym (ap (λ l. value_of (map as_label l) name) (drop_none _)) }
-
-named_here : (label : Label) (labels : List Label) (name : List ℕ) → bytes_eq label.name name ≡ true → value_of (label ∷ labels) name ≡ Some label.value
-unfolding value_of
-named_here _ _ _ is = rw is refl
-
-named_otherwise : (label : Label) (labels : List Label) (name : List ℕ) → bytes_eq label.name name ≡ false → value_of (label ∷ labels) name ≡ value_of labels name
-unfolding value_of
-named_otherwise _ _ _ is = rw is refl
-
-next_label : (labels : List LentLabel) (name : List ℕ) (place : ℕ) (d : LentLabel) → place < length labels → NoneNamed labels name place → value_of (map as_label labels) name ≡ value_of (as_label (get_or labels place d) ∷ map as_label (drop (place + 1) labels)) name
-next_label labels name place d lt h = h.rest ∙ ap (λ l. value_of (map as_label l) name) (drop_more labels place d lt)
-
-pub value_here : (labels : List LentLabel) (name : List ℕ) (place : ℕ) (x d : LentLabel) (b : Bool) → place < length labels → x ≡ get_or labels place d → NoneNamed labels name place → b ≡ bytes_eq x.name.now name → b ≡ true → Some x.value.now ≡ value_of (map as_label labels) name
-value_here labels name place x d b lt at h told is =
-    sym (next_label _ _ _ d lt h ∙ ap (λ l. value_of (as_label l ∷ map as_label (drop (place + 1) labels)) name) (sym at)
-    ∙ named_here _ _ _ (sym told ∙ is))
-
-pub value_further : (labels : List LentLabel) (name : List ℕ) (place : ℕ) (x d : LentLabel) (b : Bool) → place < length labels → x ≡ get_or labels place d → NoneNamed labels name place → b ≡ bytes_eq x.name.now name → b ≡ false → NoneNamed labels name (place + 1)
-value_further labels name place x d b lt at h told is = record {
-  rest = next_label _ _ _ d lt h ∙ ap (λ l. value_of (as_label l ∷ map as_label (drop (place + 1) labels)) name) (sym at)
-      ∙ named_otherwise _ _ _ (sym told ∙ is);
-}
-
-pub value_nowhere : (labels : List LentLabel) (name : List ℕ) (place : ℕ) → length labels ≤ place → NoneNamed labels name place → None ≡ value_of (map as_label labels) name
-value_nowhere _ name _ all h = sym (h.rest ∙ ap (λ l. value_of (map as_label l) name) (drop_all _ _ all) ∙ value_nil _)
-
--- ---- the walk over the labels of a series
+-- ---- lent labels as labels
 
 pub at_mapped : (labels : List LentLabel) (k : ℕ) (x d : LentLabel) (e : Label) → k < length labels → x ≡ get_or labels k d → as_label x ≡ get_or (map as_label labels) k e
 at_mapped [] k x d e lt at = absurd (omega arith)
 at_mapped (l ∷ ls) zero x d e lt at = ap as_label at
 at_mapped (l ∷ ls) (suc k) x d e lt at = at_mapped ls k x d e (omega arith) at
-
-pub lent_step : (rows : List PostingsRow) (lists : List (List ℕ)) (number : ℕ) (labels : List LentLabel) (place : ℕ) (x d : LentLabel) (least here new : Option ℕ) → GapsSoFar rows lists number (map as_label labels) place least → place < length labels → x ≡ get_or labels place d
-    → here ≡ gap_from 0 rows lists number (as_label x) → new ≡ earlier_place least here → GapsSoFar rows lists number (map as_label labels) (place + 1) new
-lent_step rows lists number labels place x d least here new far lt at is added =
-    gaps_step rows lists _ _ _ _ _ _ _ far (omega (arith, length-map labels as_label)) (at_mapped _ _ x d _ lt at) is added
 
 -- ---- series that are copied
 

@@ -1,4 +1,6 @@
 pub mod RowsHeld
+pub mod Apart
+pub mod FullLists
 pub mod LabelReading
 pub mod RowsFound
 pub mod ValuesListed

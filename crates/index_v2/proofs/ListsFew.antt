@@ -1,25 +1,30 @@
--- Lists that are few for the bytes before the table: how long they are said to be, row by row.
-use Rattle.std.proofs.Common.{◌≡◌, ℕ, ◌+◌, ◌-◌, ◌*◌, ◌<◌, ◌≤◌, Bool, true, false, List, [], ◌∷◌, length, take, take_all, Some, Ok, refl, sym, ap, ap₂, ◌∙◌, arith}
+-- Lists that are few for the rows, the labels of the series and the bytes before the table: how long they are said to be, row by
+-- row.
+use Rattle.std.proofs.Common.{◌≡◌, ℕ, ◌+◌, ◌-◌, ◌*◌, ◌<◌, ◌≤◌, Bool, true, false, List, [], ◌∷◌, length, take, take_all, sum_by, None, Some, Ok, refl, sym, ap, ap₂, ◌∙◌, arith}
 use Rattle.std.specs.Prelude.{slice_get, nat_le}
 use Rattle.std.specs.List.{Contains}
 use Rattle.std.proofs.lemmas.Bool.{le-leb, lt-leb, leb-true}
 use Rattle.std.proofs.lemmas.List.{drop_all}
 use Rattle.std.proofs.lemmas.List.Sums.{sum_by-cons, sum_by_push, sum_by-take-le}
+use Rattle.base.specs.Grammar.{IsBytes}
 use Rattle.base.specs.Reading.{unless}
 use Rattle.base.proofs.Membership.{contains_first, contains_later}
 use Rattle.wire_bytes.specs.Fields.{number_at}
 use Rattle.std.specs.Int.{w32}
 use Rattle.index_parts.specs.Placed.{at_place}
 use Rattle.index_parts.specs.Opened.{Opened}
-use Rattle.index_parts.specs.IndexFile.{AreFewLists}
+use Rattle.index_parts.specs.IndexFile.{labels_of, AreFewLists}
 use Rattle.index_parts.specs.Parts.{Part, file, IsPartOf, HoldsSection, told, list_size, lists_size}
+use Rattle.index_parts.specs.declared.index_series.IndexSeries.{IndexSeries}
 use Rattle.index_parts.specs.declared.postings_row.PostingsRow.{PostingsRow}
 use Rattle.index_parts.specs.declared.refusal.PartRefusal.TheVariants as part
 use Rattle.index_parts.specs.declared.toc_reading.Toc.{Toc}
 use Rattle.index_parts.proofs.Slices.{size_of_index}
 use Rattle.index_v2.specs.declared.refusal.IndexRefusal.{IndexRefusal}
 use Rattle.index_v2.specs.declared.refusal.IndexRefusal.TheVariants.{BadSection}
-use Rattle.index_v2.specs.WholeReading.{few_at}
+use Rattle.index_v2.specs.Sizes.{members_of}
+use Rattle.index_v2.specs.WholeReading.{all_at, few_at}
+use Rattle.index_v2.proofs.SeriesApart.{all_bounded}
 use Rattle.index_v2.proofs.WholeLoops.{front_more}
 
 -- past the end no length is told
@@ -29,13 +34,13 @@ no_size bytes at past = rw (drop_all at bytes (omega arith)) refl
 
 -- ---- row by row
 
-module _ (here : Part) (rows : List PostingsRow) (table : ℕ) where
+module _ (here : Part) (rows : List PostingsRow) (most : ℕ) where
   -- what is left for the rows from a place on
   abbrev pub SizesSoFar : ℕ → ℕ → Type 0
-  SizesSoFar place left = left + lists_size here (take place rows) ≡ 8 * table
+  SizesSoFar place left = left + lists_size here (take place rows) ≡ most
 
-  pub sizes_start : (left : ℕ) → left ≡ 8 * table → SizesSoFar 0 left
-  sizes_start left e = let none : lists_size here (take 0 rows) ≡ 0 = refl in omega (arith, e, none)
+  pub sizes_start : SizesSoFar 0 most
+  sizes_start = let none : lists_size here (take 0 rows) ≡ 0 = refl in omega (arith, none)
 
   module _ (place left size : ℕ) (row : PostingsRow) (far : SizesSoFar place left) (at : slice_get rows place ≡ Some row) (is : size ≡ list_size here row.offset) where
     size_more : lists_size here (take (place + 1) rows) ≡ lists_size here (take place rows) + list_size here row.offset
@@ -44,11 +49,11 @@ module _ (here : Part) (rows : List PostingsRow) (table : ℕ) where
     pub sizes_step : (next : ℕ) → size ≤ left → next ≡ left - size → SizesSoFar (place + 1) next
     sizes_step next le e = omega (arith, far, size_more, is, le, e)
 
-    pub sizes_over : left < size → false ≡ nat_le (lists_size here rows) (8 * table)
-    sizes_over lt = sym (lt-leb (lists_size here rows) (8 * table) (omega (arith, far, size_more, is, lt, sum_by-take-le (λ (r : PostingsRow). list_size here r.offset) rows (place + 1))))
+    pub sizes_over : left < size → false ≡ nat_le (lists_size here rows) most
+    sizes_over lt = sym (lt-leb (lists_size here rows) most (omega (arith, far, size_more, is, lt, sum_by-take-le (λ (r : PostingsRow). list_size here r.offset) rows (place + 1))))
 
-  pub sizes_end : (place left : ℕ) → SizesSoFar place left → length rows ≤ place → true ≡ nat_le (lists_size here rows) (8 * table)
-  sizes_end place left far le = sym (le-leb (lists_size here rows) (8 * table) (omega (arith, far, ap (lists_size here) (take_all place rows le))))
+  pub sizes_end : (place left : ℕ) → SizesSoFar place left → length rows ≤ place → true ≡ nat_le (lists_size here rows) most
+  sizes_end place left far le = sym (le-leb (lists_size here rows) most (omega (arith, far, ap (lists_size here) (take_all place rows le))))
 
 -- ---- what is tested
 
@@ -56,13 +61,17 @@ few_told : (b : Bool) (e : IndexRefusal) → unless b e ≡ Ok tt → b ≡ true
 few_told true e h = refl
 few_told false e h = absurd (cc (h))
 
-pub few_found : (opened : Opened) → few_at opened.toc (file opened.bytes) opened.rows ≡ Ok tt → AreFewLists opened
-unfolding few_at
-few_found opened e = leb-true (lists_size (file opened.bytes) opened.rows) (8 * opened.toc.postings_table) (few_told _ (BadSection 5 (part.Unordered opened.toc.postings)) e)
+module _ (opened : Opened) (list : List IndexSeries) where
+  abbrev most : ℕ
+  most = 8 * (opened.toc.postings_table + length opened.rows + labels_of list)
 
-pub few_again : (opened : Opened) → AreFewLists opened → few_at opened.toc (file opened.bytes) opened.rows ≡ Ok tt
-unfolding few_at
-few_again opened few = rw (le-leb (lists_size (file opened.bytes) opened.rows) (8 * opened.toc.postings_table) few) refl
+  pub few_found : few_at opened.toc (file opened.bytes) opened.rows list ≡ Ok tt → AreFewLists opened list
+  unfolding few_at
+  few_found e = leb-true (lists_size (file opened.bytes) opened.rows) most (few_told _ (BadSection 5 (part.Unordered opened.toc.postings)) e)
+
+  pub few_again : AreFewLists opened list → few_at opened.toc (file opened.bytes) opened.rows list ≡ Ok tt
+  unfolding few_at
+  few_again few = rw (le-leb (lists_size (file opened.bytes) opened.rows) most few) refl
 
 -- ---- over a part
 
@@ -77,7 +86,18 @@ sizes_same here index is (row ∷ rows) lie =
       sum_by-cons (λ (r : PostingsRow). list_size (file index) r.offset) row rows,
     )
 
-pub few_same : (here : Part) (index : List ℕ) (rows others : List PostingsRow) (toc other : Toc) → IsPartOf here index → ((row : PostingsRow) → Contains rows row → HoldsSection here row.offset) → rows ≡ others → toc ≡ other → few_at toc here rows ≡ few_at other (file index) others
+pub few_same : (here : Part) (index : List ℕ) (rows others : List PostingsRow) (toc other : Toc) (list : List IndexSeries) → IsPartOf here index → ((row : PostingsRow) → Contains rows row → HoldsSection here row.offset) → rows ≡ others → toc ≡ other → few_at toc here rows list ≡ few_at other (file index) others list
 unfolding few_at
-few_same here index rows others toc other is lie same tocs =
-    ap₂ (λ (n : ℕ) (t : Toc). unless (nat_le n (8 * t.postings_table)) (BadSection 5 (part.Unordered t.postings))) (sizes_same here index is rows lie ∙ ap (lists_size (file index)) same) tocs
+few_same here index rows others toc other list is lie same tocs =
+    ap₂ (λ (n : ℕ) (t : Toc). unless (nat_le n (8 * (t.postings_table + length rows + labels_of list))) (BadSection 5 (part.Unordered t.postings))) (sizes_same here index is rows lie) tocs
+    ∙ ap (λ (l : List PostingsRow). unless (nat_le (lists_size (file index) l) (8 * (other.postings_table + length l + labels_of list))) (BadSection 5 (part.Unordered other.postings))) same
+
+-- ---- labels
+
+-- the labels are among what the series have
+labels_members : (list : List IndexSeries) → labels_of list ≤ sum_by members_of list
+labels_members [] = let none : labels_of [] ≡ 0 = refl in omega (arith, none)
+labels_members (one ∷ list) = omega (arith, labels_members list, sum_by-cons (λ (s : IndexSeries). length s.labels) one list, sum_by-cons members_of one list)
+
+pub labels_few : (index : List ℕ) (symbols : List (List ℕ)) (numbers : List ℕ) (list : List IndexSeries) → IsBytes index → all_at index symbols None None numbers ≡ Ok list → labels_of list ≤ length index
+labels_few index symbols numbers list bytes e = omega (arith, labels_members list, all_bounded index symbols numbers list bytes e)

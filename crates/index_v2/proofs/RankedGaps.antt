@@ -1,5 +1,5 @@
 -- The walks over ranks: what they find of ranks they find of the texts.
-use Rattle.std.proofs.Common.{◌≡◌, ℕ, zero, suc, ◌+◌, ◌<◌, ◌≤◌, Bool, true, false, List, [], ◌∷◌, ◌++◌, length, zip, drop, get_or, Option, Some, None, Result, Ok, refl, sym, ap, subst, ◌∙◌, arith}
+use Rattle.std.proofs.Common.{◌≡◌, ℕ, zero, suc, ◌+◌, ◌<◌, ◌≤◌, Bool, true, false, List, [], ◌∷◌, length, zip, drop, get_or, Option, Some, None, Ok, refl, sym, ap, ◌∙◌, arith}
 use Rattle.std.specs.Prelude.{slice_get, is_none, ◌&&◌}
 use Rattle.std.specs.List.{list_all}
 use Rattle.std.proofs.lemmas.List.{drop_all}
@@ -10,8 +10,8 @@ use Rattle.index_parts.specs.declared.postings_row.PostingsRow.{PostingsRow}
 use Rattle.index_parts.specs.declared.index_series.IndexSeries.{IndexSeries}
 use Rattle.index_v2.specs.declared.ranks.Ranks.{Ranks}
 use Rattle.index_v2.specs.Ranks.{IsLabelRank, AreLabelRanks, IsRanked, AreRanked}
-use Rattle.index_v2.specs.WholeReading.{belongs, is_of_row, gap_from, gap_of, earlier_place, may_stand_behind}
-use Rattle.index_v2.proofs.Differences.{TellsPlace, of_row, of_no_row, GapsSoFar, gaps_step, gaps_end, GapSoFar, gap_step}
+use Rattle.index_v2.specs.WholeReading.{belongs, is_of_row, gap_from, gap_of, earlier_place}
+use Rattle.index_v2.proofs.Differences.{TellsPlace, of_row, GapsSoFar, gaps_step, gaps_end, GapSoFar, gap_step}
 use Rattle.index_v2.proofs.RankPlaces.{as_many, one_rank}
 use Rattle.index_v2.proofs.WholeLoops.{at_front}
 

@@ -96,16 +96,21 @@ module _ (index : List ℕ) where
         let others = all_few (Some number) numbers list (omega (arith, many)) (λ n o has. each n o (contains_later _ _ _ has)) apart.1 few.1 in
         omega (arith, few.0, few.1, others, starts_behind last number apart.0, sum_by-cons members_of one list)
 
--- what is read of a whole index has together no more labels and chunks than the index has bytes
+-- series that are read one behind the other have together no more labels and chunks than the index has bytes
+pub all_bounded : (index : List ℕ) (symbols : List (List ℕ)) (numbers : List ℕ) (list : List IndexSeries) → IsBytes index → all_at index symbols None None numbers ≡ Ok list → sum_by members_of list ≤ length index
+all_bounded index symbols numbers list bytes e =
+    let read = all_found index symbols None None numbers list e in
+    omega (arith, all_few index symbols bytes None numbers list read.many read.each read.apart (omega arith))
+
+-- and so has what is read of a whole index
 pub whole_bounded : (held : Held) (list : List IndexSeries) → IsBytes held.bytes → whole_at held ≡ Ok list → sum_by members_of list ≤ length held.bytes
 unfolding whole_at
 whole_bounded held list bytes e =
-    let numbers = bind_ok (postings_of held [] []) (λ numbers. present_at held.toc numbers >> (all_at held.bytes held.symbols None None numbers >>= λ series. few_at held.toc held.lists held.rows >> (differing_at held.lists held.rows (zip numbers series) >>= λ found. unless_differ found >> Ok series))) list e in
-    let present = then_ok (present_at held.toc numbers.0) (all_at held.bytes held.symbols None None numbers.0 >>= λ series. few_at held.toc held.lists held.rows >> (differing_at held.lists held.rows (zip numbers.0 series) >>= λ found. unless_differ found >> Ok series)) list numbers.2 in
-    let series = bind_ok (all_at held.bytes held.symbols None None numbers.0) (λ series. few_at held.toc held.lists held.rows >> (differing_at held.lists held.rows (zip numbers.0 series) >>= λ found. unless_differ found >> Ok series)) list present.2 in
-    let few_lists = then_ok (few_at held.toc held.lists held.rows) (differing_at held.lists held.rows (zip numbers.0 series.0) >>= λ found. unless_differ found >> Ok series.0) list series.2 in
+    let numbers = bind_ok (postings_of held [] []) (λ numbers. present_at held.toc numbers >> (all_at held.bytes held.symbols None None numbers >>= λ series. few_at held.toc held.lists held.rows series >> (differing_at held.lists held.rows (zip numbers series) >>= λ found. unless_differ found >> Ok series))) list e in
+    let present = then_ok (present_at held.toc numbers.0) (all_at held.bytes held.symbols None None numbers.0 >>= λ series. few_at held.toc held.lists held.rows series >> (differing_at held.lists held.rows (zip numbers.0 series) >>= λ found. unless_differ found >> Ok series)) list numbers.2 in
+    let series = bind_ok (all_at held.bytes held.symbols None None numbers.0) (λ series. few_at held.toc held.lists held.rows series >> (differing_at held.lists held.rows (zip numbers.0 series) >>= λ found. unless_differ found >> Ok series)) list present.2 in
+    let few_lists = then_ok (few_at held.toc held.lists held.rows series.0) (differing_at held.lists held.rows (zip numbers.0 series.0) >>= λ found. unless_differ found >> Ok series.0) list series.2 in
     let found = bind_ok (differing_at held.lists held.rows (zip numbers.0 series.0)) (λ found. unless_differ found >> Ok series.0) list few_lists.2 in
     let same = then_ok (unless_differ found.0) (Ok series.0) list found.2 in
-    let read = all_found held.bytes held.symbols None None numbers.0 series.0 series.1 in
-    let few = all_few held.bytes held.symbols bytes None numbers.0 series.0 read.many read.each read.apart (omega arith) in
+    let few = all_bounded held.bytes held.symbols numbers.0 series.0 bytes series.1 in
     omega (arith, few, ap (sum_by members_of) (ok_is {E = IndexRefusal} series.0 list same.2))

@@ -265,7 +265,7 @@ pub record HasRead (opened : Opened) (numbers : List ℕ) (list : List IndexSeri
   pub listed : postings_of (whole_file opened) [] [] ≡ Ok numbers
   pub present : present_at opened.toc numbers ≡ Ok tt
   pub series : all_at opened.bytes opened.symbols None None numbers ≡ Ok list
-  pub few : few_at opened.toc (file opened.bytes) opened.rows ≡ Ok tt
+  pub few : few_at opened.toc (file opened.bytes) opened.rows list ≡ Ok tt
   pub read : lists_at (file opened.bytes) opened.rows ≡ Ok lists
 
 module _ (opened : Opened) (numbers : List ℕ) (list : List IndexSeries) (lists : List (List ℕ)) (are : IsBytes opened.bytes) (is : IsOpened opened) (has : HasRead opened numbers list lists) where
@@ -301,7 +301,7 @@ entry_of opened listed known n has =
     (is.stands.content, subst (λ (m : ℕ). IsEntry opened.bytes (16 * m) is.stands.content) one.2 is.stands.entry)
 
 -- such series are read, where each row has a list
-pub read_again : (opened : Opened) (listed : List (ℕ × IndexSeries)) → IsOpened opened → AreSeriesOf opened listed → AreFewLists opened → ((row : PostingsRow) → Contains opened.rows row → (numbers : List ℕ) × IsPostings opened.bytes row.offset numbers)
+pub read_again : (opened : Opened) (listed : List (ℕ × IndexSeries)) → IsOpened opened → AreSeriesOf opened listed → AreFewLists opened (map (λ (one : ℕ × IndexSeries). one.1) listed) → ((row : PostingsRow) → Contains opened.rows row → (numbers : List ℕ) × IsPostings opened.bytes row.offset numbers)
     → (lists : List (List ℕ)) × HasRead opened (map (λ (one : ℕ × IndexSeries). one.0) listed) (map (λ (one : ℕ × IndexSeries). one.1) listed) lists
 read_again opened listed is known few stand =
     let numbers = map (λ (one : ℕ × IndexSeries). one.0) listed in
@@ -318,7 +318,7 @@ read_again opened listed is known few stand =
           behind = tt;
           ascend = known.ascend;
         });
-        few = few_again opened few;
+        few = few_again opened list few;
         read = lists.1;
       },
     )

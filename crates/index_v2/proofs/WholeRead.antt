@@ -1,5 +1,5 @@
 -- A whole index is read exactly where the bytes are an index of the list, and where the lists differ the first place is told.
-use Rattle.std.proofs.Common.{◌≡◌, ◌≢◌, ℕ, ◌*◌, Bool, true, false, List, [], ◌∷◌, map, zip, Option, Some, None, Result, Ok, Err, refl, sym, ap, subst, ◌∙◌, ◌⊎◌, inl, inr}
+use Rattle.std.proofs.Common.{◌≡◌, ◌≢◌, ℕ, ◌+◌, ◌*◌, Bool, true, false, List, [], ◌∷◌, length, map, zip, Option, Some, None, Result, Ok, Err, refl, sym, ap, subst, ◌∙◌, ◌⊎◌, inl, inr}
 use Rattle.std.specs.Prelude.{nat_lt, nat_le, ◌&&◌}
 use Rattle.std.proofs.lemmas.Bool.{cases_lt}
 use Rattle.std.proofs.lemmas.Cmp.{tied_itself}
@@ -19,7 +19,7 @@ use Rattle.index_parts.proofs.ListLaws.{list_found}
 use Rattle.index_parts.proofs.PostingsLaws.{posting_turn}
 use Rattle.index_parts.specs.declared.index_series.IndexSeries.{IndexSeries}
 use Rattle.index_parts.specs.Opened.{Opened}
-use Rattle.index_parts.specs.IndexFile.{HasRow, IsOpened, IsIndex}
+use Rattle.index_parts.specs.IndexFile.{labels_of, HasRow, IsOpened, AreFewLists, IsIndex}
 use Rattle.index_v2.specs.declared.refusal.IndexRefusal.{IndexRefusal}
 use Rattle.index_v2.specs.declared.refusal.IndexRefusal.TheVariants.{BadSeries, PostingsDiffer, NoMemory}
 use Rattle.index_v2.specs.Opening.{refused_in, refused_of, opened_at}
@@ -116,9 +116,9 @@ all_never index symbols last before (number ∷ numbers) =
     bind_never _ _ (behind_never _ _ _ _ _)
     (λ series. bind_never (all_at index symbols (Some number) (Some series) numbers) (λ others. Ok (series ∷ others)) (all_never index symbols (Some number) (Some series) numbers) (λ others. ok_never (series ∷ others)))
 
-few_never : (toc : Toc) (here : Part) (rows : List PostingsRow) → NeverDiffers (few_at toc here rows)
+few_never : (toc : Toc) (here : Part) (rows : List PostingsRow) (series : List IndexSeries) → NeverDiffers (few_at toc here rows series)
 unfolding few_at
-few_never toc here rows = unless_never (nat_le (lists_size here rows) (8 * toc.postings_table)) _ (in_section 5 (part.Unordered toc.postings))
+few_never toc here rows series = unless_never (nat_le (lists_size here rows) (8 * (toc.postings_table + length rows + labels_of series))) _ (in_section 5 (part.Unordered toc.postings))
 
 lists_never : (part : Part) (rows : List PostingsRow) → NeverDiffers (lists_at part rows)
 unfolding lists_at
@@ -145,10 +145,10 @@ whole_parts : (opened : Opened) (end : Result (List IndexSeries) IndexRefusal) �
     → (numbers : List ℕ) × (list : List IndexSeries) × (lists : List (List ℕ)) × HasRead opened numbers list lists × ((unless_differ (difference opened.rows lists (zip numbers list)) >> Ok list) ≡ end)
 unfolding whole_at
 whole_parts opened end is e =
-    let numbers = bind_end (postings_of (whole_file opened) [] []) (λ numbers. present_at opened.toc numbers >> (all_at opened.bytes opened.symbols None None numbers >>= λ series. few_at opened.toc (file opened.bytes) opened.rows >> (differing_at (file opened.bytes) opened.rows (zip numbers series) >>= λ found. unless_differ found >> Ok series))) _ (list_never (file opened.bytes) (row_of opened.rows [] [])) is e in
+    let numbers = bind_end (postings_of (whole_file opened) [] []) (λ numbers. present_at opened.toc numbers >> (all_at opened.bytes opened.symbols None None numbers >>= λ series. few_at opened.toc (file opened.bytes) opened.rows series >> (differing_at (file opened.bytes) opened.rows (zip numbers series) >>= λ found. unless_differ found >> Ok series))) _ (list_never (file opened.bytes) (row_of opened.rows [] [])) is e in
     let present = then_end _ _ _ (present_never _ _) is numbers.2 in
     let series = bind_end _ _ _ (all_never _ _ _ _ _) is present.2 in
-    let few = then_end _ _ _ (few_never opened.toc (file opened.bytes) opened.rows) is series.2 in
+    let few = then_end _ _ _ (few_never opened.toc (file opened.bytes) opened.rows series.0) is series.2 in
     let found = bind_end _ _ _ (differing_never (file opened.bytes) opened.rows (zip numbers.0 series.0)) is few.2 in
     let lists = differing_parts (file opened.bytes) opened.rows (zip numbers.0 series.0) found.0 found.1 in
     (numbers.0, series.0, lists.0, record { listed = numbers.1; present = present.1; series = series.1; few = few.1; read = lists.1 }, subst (λ (o : Option ℕ). (unless_differ o >> Ok series.0) ≡ end) (sym lists.2) found.2)
@@ -188,7 +188,7 @@ module _ (opened : Opened) (are : IsBytes opened.bytes) (is : IsOpened opened) w
             let found = gaps_found opened.rows lists listed gaps.1 number series h label labelled in
             let texts = equal_texts found.1 label.name label.value found.3 in
             (found.1, contains_place opened.rows found.0 found.1 found.2, texts.0, texts.1);
-        lists_few = few_found opened has.few;
+        lists_few = few_found opened list has.few;
       }
 
   pub whole_found : (list : List IndexSeries) → whole_at (whole_file opened) ≡ Ok list → IsIndex opened.bytes list
@@ -208,7 +208,7 @@ module _ (opened : Opened) (are : IsBytes opened.bytes) (is : IsOpened opened) w
         listed = listed;
         series_are = series_known opened parts.0 parts.1 parts.2 are is parts.3;
         lists_stand = λ row h. let at = place_of_member opened.rows row h in let each = taken.lists_are.each at.0 row at.1 in (each.0, list_found IsNextPosting posting_at posting_turn opened.bytes row.offset each.0 are each.2);
-        lists_few = few_found opened parts.3.few;
+        lists_few = subst (AreFewLists opened) (sym (as_listed opened parts.0 parts.1 parts.2 are is parts.3)) (few_found opened parts.1 parts.3.few);
         differs = least.0;
         first = least.1;
       }
@@ -247,7 +247,7 @@ module _ (index : List ℕ) (list : List IndexSeries) (is : IsIndex index list) 
   read_opened =
       let numbers = map (λ one. one.0) is.listed in
       let series = map (λ one. one.1) is.listed in
-      let read = read_again _ _ is.is_opened is.series_are is.lists_few (λ row h. ((is.rows_are row h).numbers, (is.rows_are row h).stands)) in
+      let read = read_again _ _ is.is_opened is.series_are (subst (AreFewLists is.opened) (sym is.list_is) is.lists_few) (λ row h. ((is.rows_are row h).numbers, (is.rows_are row h).stands)) in
       let taken = subst (λ ps. AreTaken is.opened.bytes is.opened.rows read.0 ps numbers) (zip_parts _) (are_taken is.opened _ _ _ are is.is_opened read.1) in
       let exact = nowhere _ _ (differs_least _ _ _ _ numbers taken) agrees in
       whole_joined _ _ _ _ _ read.1 (ap (difference is.opened.rows read.0) (zip_parts _) ∙ exact) ∙ ap Ok is.list_is

@@ -1,5 +1,5 @@
 -- The first place of a postings table at which the lists are not those of the series.
-use Rattle.std.specs.Prelude.{◌≡◌, ◌⊎◌, ℕ, ◌<◌, List, slice_get, Some}
+use Rattle.std.specs.Prelude.{◌≡◌, ◌⊎◌, ℕ, ◌<◌, List, map, slice_get, Some}
 use Rattle.std.specs.List.{Contains}
 use Rattle.label_sets.specs.declared.label.Label.{Label}
 use Rattle.index_parts.specs.declared.postings_row.PostingsRow.{PostingsRow}
@@ -21,12 +21,12 @@ LacksRowAt rows listed place = (number : ℕ) × (series : IndexSeries) × (labe
 abbrev pub DiffersAt : List ℕ → List PostingsRow → List (ℕ × IndexSeries) → ℕ → Type 0
 DiffersAt index rows listed place = ListsOthersAt index rows listed place ⊎ LacksRowAt rows listed place
 
--- These are the listed series, each row of the table has a list, these are few for the bytes before it, and this is the first place of the table at which the lists
--- are not those of the series.
+-- These are the listed series, each row of the table has a list, the lists are few, and this is the first place of the table at
+-- which they are not those of the series.
 pub record DifferFirstAt (opened : Opened) (place : ℕ) : Type 0 where
   pub listed : List (ℕ × IndexSeries)
   pub series_are : AreSeriesOf opened listed
   pub lists_stand : (row : PostingsRow) → Contains opened.rows row → (numbers : List ℕ) × IsPostings opened.bytes row.offset numbers
-  pub lists_few : AreFewLists opened
+  pub lists_few : AreFewLists opened (map (λ one. one.1) listed)
   pub differs : DiffersAt opened.bytes opened.rows listed place
   pub first : (k : ℕ) → k < place → DiffersAt opened.bytes opened.rows listed k → ⊥

@@ -1,7 +1,6 @@
 -- Where texts stand among the symbols of an index, told by numbers: to compare these is to compare the texts.
-use Rattle.std.specs.Prelude.{◌≡◌, ℕ, ◌+◌, ◌*◌, ◌-◌, ◌^◌, List, [], ◌∷◌, length, map, Option, Some, None, Bool, true, false, ◌<◌, ◌&&◌, ◌==◌, Result, Ok, slice_get, unwrap_or, nat_lt, if◌then◌else◌}
+use Rattle.std.specs.Prelude.{◌≡◌, ℕ, ◌+◌, ◌*◌, ◌-◌, ◌^◌, List, [], ◌∷◌, length, map, Option, Some, None, true, false, ◌<◌, ◌&&◌, ◌==◌, Result, Ok, slice_get, unwrap_or, nat_lt, if◌then◌else◌}
 use Rattle.std.specs.declared.cmp.Ordering.{Ordering}
-use Rattle.std.specs.Cmp.Lexicographic.{slice_cmp}
 use Rattle.std.specs.List.Sorted.{IsStrictlySortedBy}
 use Rattle.std.specs.Ordering.{nat_cmp, ordering_then}
 use Rattle.base.specs.Reading.{◌>>=◌}

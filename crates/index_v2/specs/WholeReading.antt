@@ -15,7 +15,7 @@ use Rattle.index_parts.specs.declared.toc_reading.Toc.{Toc}
 use Rattle.index_parts.specs.declared.postings_row.PostingsRow.{PostingsRow}
 use Rattle.index_parts.specs.Parts.{Part, list_in, lists_size}
 use Rattle.index_parts.specs.declared.index_series.IndexSeries.{IndexSeries}
-use Rattle.index_parts.specs.IndexFile.{series_unit}
+use Rattle.index_parts.specs.IndexFile.{series_unit, labels_of}
 use Rattle.index_v2.specs.declared.refusal.IndexRefusal.{IndexRefusal}
 use Rattle.index_v2.specs.declared.refusal.IndexRefusal.TheVariants.{BadSection, BadSeries, PostingsDiffer}
 use Rattle.index_v2.specs.Held.{Held}
@@ -62,9 +62,10 @@ all_at index symbols last before (number ∷ numbers) = do
 
 -- ---- the postings lists, in the table's order
 
--- together they are few for the bytes before the table: tested before any of them is read
-unfoldable pub few_at : Toc → Part → List PostingsRow → Result (Unit {0}) IndexRefusal
-few_at toc here rows = unless (nat_le (lists_size here rows) (8 * toc.postings_table)) (BadSection postings_section (part.Unordered toc.postings))
+-- together they are few for the rows, the labels of the series and the bytes before the table: tested before any of them is read
+unfoldable pub few_at : Toc → Part → List PostingsRow → List IndexSeries → Result (Unit {0}) IndexRefusal
+few_at toc here rows series =
+    unless (nat_le (lists_size here rows) (8 * (toc.postings_table + length rows + labels_of series))) (BadSection postings_section (part.Unordered toc.postings))
 
 unfoldable pub lists_at : Part → List PostingsRow → Result (List (List ℕ)) IndexRefusal
 lists_at part [] = Ok []
@@ -161,7 +162,7 @@ whole_at held = do
   numbers ← postings_of held [] []
   present_at held.toc numbers
   series ← all_at held.bytes held.symbols None None numbers
-  few_at held.toc held.lists held.rows
+  few_at held.toc held.lists held.rows series
   where_differ ← differing_at held.lists held.rows (zip numbers series)
   unless_differ where_differ
   Ok series

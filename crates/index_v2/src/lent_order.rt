@@ -1,8 +1,6 @@
-//! Labels whose texts an index lends: their order, and the value under a name.
+//! The order of labels whose texts an index lends.
 ghost use Rattle.std.specs.Prelude.{◌≡◌, map};
-ghost use Rattle.std.specs.Option.{option_copied};
-ghost use Rattle.std.specs.Str.{bytes_eq};
-ghost use Rattle.label_sets.specs.Labels.{compare_labels, compare_sets, value_of};
+ghost use Rattle.label_sets.specs.Labels.{compare_labels, compare_sets};
 ghost use Rattle.index_v2.specs.LentLabels.{as_label};
 
 use crate::LentLabel;
@@ -32,22 +30,4 @@ pub fn compare_lent(one: &[LentLabel<'_>], other: &[LentLabel<'_>]) -> Ordering
     } else {
         Ordering::Equal
     }
-}
-
-fn is_named(label: &LentLabel<'_>, name: &str) -> bool
-    ensures { result ≡ bytes_eq label.now.name.now name.now }
-{
-    label.name == name
-}
-
-/// The value of the first label of this name.
-pub(crate) fn value_in<'a>(labels: &[LentLabel<'a>], name: &str) -> Option<&'a str>
-    ensures { option_copied result ≡ value_of (map as_label labels.now) name.now }
-{
-    for label in labels {
-        if is_named(label, name) {
-            return Some(label.value);
-        }
-    }
-    None
 }

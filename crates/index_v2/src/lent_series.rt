@@ -3,20 +3,17 @@
 
 ghost use Rattle.std.specs.Prelude.{◌≡◌, [], map, Ok, IfOk, IsOk, OnOk};
 ghost use Rattle.base.specs.Reading.{Gives};
-ghost use Rattle.std.specs.Option.{option_copied};
-ghost use Rattle.label_sets.specs.Labels.{IsLabelSet, added, compare_sets, value_of};
+ghost use Rattle.label_sets.specs.Labels.{IsLabelSet, added};
 ghost use Rattle.index_v2.specs.LentLabels.{as_label};
 ghost use Rattle.index_v2.specs.SeriesLabels.{labelled_at};
 
 use crate::IndexSeries;
-use crate::lent_order::{compare_lent, value_in};
 use crate::series_labels::texts_of;
 use crate::symbols::Symbols;
 use base::{NoMemory, TryCopy};
 use index_parts::{ChunkList, ChunkPlace, PartRefusal, before_labels, chunks_behind};
 use label_sets::{LabelRefusal, LabelSet};
 use std::alloc::Global;
-use std::cmp::Ordering;
 use std::marker::Model;
 
 /// A label whose texts the index lends.
@@ -86,20 +83,6 @@ impl<'a> LentSeries<'a> {
         ensures lawful { IsLabelSet self.now.labels }
     {
         self.labels.as_slice()
-    }
-
-    /// The value under a name.
-    pub fn value(&self, name: &str) -> Option<&'a str>
-        ensures { option_copied result ≡ value_of self.now.labels name.now }
-    {
-        value_in(self.labels(), name)
-    }
-
-    /// The order of series by their label sets.
-    pub fn compare(&self, other: &LentSeries<'_>) -> Ordering
-        ensures { result ≡ compare_sets self.now.labels other.now.labels }
-    {
-        compare_lent(self.labels(), other.labels())
     }
 
     /// Where the chunks stand.

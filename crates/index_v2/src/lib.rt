@@ -3,6 +3,7 @@
 
 mod difference;
 mod index_reader;
+mod laws;
 mod lent_order;
 mod lent_parts;
 mod lent_series;
@@ -22,6 +23,7 @@ mod whole;
 
 pub use index_parts::{IndexSeries, IndexSeriesList};
 pub use index_reader::IndexReader;
+pub use laws::full_lists_are_few;
 pub use lent_order::compare_lent;
 pub use lent_parts::IndexParts;
 pub use lent_series::{LentLabel, LentSeries, add_label, set_of};

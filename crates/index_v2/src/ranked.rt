@@ -41,11 +41,17 @@ fn ranks_of(label: RawLabel) -> Ranks
     }
 }
 
-/// The ranks of the next labels, so many.
-fn ranks_at(alloc: Global, count: u64, cursor: Cursor<'_>) -> Result<RankList, PartRefusal>
+/// The ranks of the next labels, so many, in an index with so many symbols. For no more than these there is room at once.
+fn ranks_at(
+    alloc: Global,
+    count: u64,
+    symbols: usize,
+    cursor: Cursor<'_>,
+) -> Result<RankList, PartRefusal>
     ensures { Gives PartRefusal.NoMemory (λ ranks. ranks) result (ranks_at count cursor.entry) }
 {
-    let mut ranks = Vec::new(alloc);
+    let room = count.min(symbols as u64) as usize;
+    let mut ranks = Vec::with_capacity(alloc, room)?;
     let mut rest = cursor;
     for _ in 0..count {
         let (label, after) = next_label(rest)?;
@@ -55,13 +61,18 @@ fn ranks_at(alloc: Global, count: u64, cursor: Cursor<'_>) -> Result<RankList, P
     Ok(RankList::from_vec(ranks))
 }
 
-/// The ranks of the labels of the series at a place.
+/// The ranks of the labels of the series at a place, in an index with so many symbols.
 #[tactic(auto, unfolding(crate::specs::Ranks::series_ranks_at))]
-fn series_ranks(alloc: Global, index: &[u8], at: u64) -> Result<RankList, PartRefusal>
+fn series_ranks(
+    alloc: Global,
+    index: &[u8],
+    symbols: usize,
+    at: u64,
+) -> Result<RankList, PartRefusal>
     ensures { Gives PartRefusal.NoMemory (λ ranks. ranks) result (series_ranks_at index.now at) }
 {
     let (count, cursor) = before_labels(index, at)?;
-    ranks_at(alloc, count, cursor)
+    ranks_at(alloc, count, symbols, cursor)
 }
 
 /// Reads the series of a number, and the ranks of its labels.
@@ -78,9 +89,9 @@ pub(crate) fn ranked_series<'a>(
     ensures symbols { AreSymbols symbols.now }
 {
     let at = SERIES_UNIT * number;
-    symbols.len();
+    let count = symbols.len();
     match LentSeries::read(index, symbols, at, LentSeries::new(alloc)) {
-        Ok(series) => match series_ranks(alloc, index, at) {
+        Ok(series) => match series_ranks(alloc, index, count, at) {
             Ok(ranks) => Ok(RankedSeries { series, ranks }),
             Err(refusal) => Err(refused_of(number as u32, refusal)),
         },

@@ -6,11 +6,12 @@ ghost use Rattle.std.specs.Int.{w32};
 ghost use Rattle.wire_bytes.specs.Fields.{number_at};
 ghost use Rattle.index_parts.specs.Placed.{at_place};
 ghost use Rattle.index_parts.specs.Parts.{part_of, told, list_size, lists_size};
+ghost use Rattle.index_parts.specs.IndexFile.{labels_of};
 ghost use Rattle.index_v2.specs.Sizes.{series_bytes};
 ghost use Rattle.index_v2.specs.WholeReading.{stands_behind, few_at};
 
-use crate::IndexRefusal;
 use crate::postings::POSTINGS;
+use crate::{IndexRefusal, LentSeries};
 use index_parts::{IndexPart, PartRefusal, Rows, SERIES_UNIT, Toc};
 use wire_bytes::Cursor;
 
@@ -63,11 +64,11 @@ fn size_at(bytes: &[u8], at: u64) -> u32
     cursor.take_u32().unwrap_or(0)
 }
 
-/// Whether the lists of rows, each as often as a row names it, have no more than eight bytes for each byte before the table.
-fn are_few(part: IndexPart<'_>, rows: &Rows<'_>, table: u64) -> bool
-    ensures { result ≡ nat_le (lists_size (part_of part.entry) rows.now) (8 * table) }
+/// Whether the lists of rows, each as often as a row names it, have no more than so many bytes.
+fn have_at_most(part: IndexPart<'_>, rows: &Rows<'_>, most: u128) -> bool
+    ensures { result ≡ nat_le (lists_size (part_of part.entry) rows.now) most }
 {
-    let mut left = 8 * u128::from(table);
+    let mut left = most;
     for place in 0..rows.len() {
         let Some(row) = rows.get(place) else {
             return true;
@@ -81,16 +82,33 @@ fn are_few(part: IndexPart<'_>, rows: &Rows<'_>, table: u64) -> bool
     true
 }
 
-/// Tests from their lengths alone that the lists of rows are few for the bytes before the table.
+/// How many labels series have together.
+fn label_count(series: &[LentSeries<'_>]) -> usize
+    requires { labels_of series.now < 2 ^ 64 }
+    ensures { result ≡ labels_of series.now }
+{
+    let mut count = 0;
+    for one in series {
+        count += one.labels().len();
+    }
+    count
+}
+
+/// Tests from their lengths alone that the lists of rows are few for the rows, the labels of the series and the bytes before
+/// the table.
 #[tactic(auto, unfolding(crate::specs::WholeReading::few_at))]
 pub(crate) fn test_lists(
     toc: &Toc,
     part: IndexPart<'_>,
     rows: &Rows<'_>,
+    series: &[LentSeries<'_>],
 ) -> Result<(), IndexRefusal>
-    ensures { Answers (λ x. x) result (few_at toc.now (part_of part.entry) rows.now) }
+    requires { labels_of series.now < 2 ^ 64 }
+    ensures { Answers (λ x. x) result (few_at toc.now (part_of part.entry) rows.now series.now) }
 {
-    if are_few(part, rows, toc.postings_table) {
+    let labels = label_count(series) as u128;
+    let most = 8 * (u128::from(toc.postings_table) + rows.len() as u128 + labels);
+    if have_at_most(part, rows, most) {
         return Ok(());
     }
     Err(IndexRefusal::BadSection(POSTINGS, PartRefusal::Unordered(toc.postings)))

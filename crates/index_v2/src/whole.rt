@@ -1,11 +1,12 @@
 //! The whole of an index, read and tested at once: every series, every postings list, and that the lists are just those
 //! of the series. A block of a shelf is shipped, and a block is merged, only where its index was read so.
 
-ghost use Rattle.std.specs.Prelude.{◌≡◌, ◌⊎◌, ◌+◌, ◌-◌, ◌^◌, ◌<◌, [], ℕ, List, All, length, zip, slice_get, None, Err, IfOk, IfSome, OnOk, MatchResult, if◌then◌else◌};
+ghost use Rattle.std.specs.Prelude.{◌≡◌, ◌⊎◌, ◌+◌, ◌-◌, ◌^◌, ◌<◌, ◌≤◌, [], ℕ, List, All, length, zip, slice_get, None, Err, IfOk, IfSome, OnOk, MatchResult, if◌then◌else◌};
 ghost use Rattle.base.specs.Reading.{Gives, Answers};
 ghost use Rattle.index_parts.specs.Rows.{compare_rows};
 ghost use Rattle.std.specs.List.Sorted.{IsStrictlyIncreasing, IsStrictlySortedBy};
 ghost use Rattle.index_parts.specs.Parts.{part_of};
+ghost use Rattle.index_parts.specs.IndexFile.{labels_of};
 ghost use Rattle.index_parts.specs.declared.index_series.IndexSeries.{IndexSeries};
 ghost use Rattle.index_v2.specs.Ranks.{AreSymbols, IsRanked, AreRanked, IsRowRank, AreRowRanks, TellsRow};
 ghost use Rattle.index_v2.specs.WholeReading.{present_at, may_stand_behind, behind_at, all_at, lists_at, differing_at, AreKept, whole_at};
@@ -98,6 +99,7 @@ pub(crate) fn all_series<'a>(
 ) -> Result<AllSeries<'a>, IndexRefusal>
     requires { All (λ n. n < 2 ^ 32) numbers.now }
     ensures as_many { IfOk result (λ all. length all.series.items ≡ length numbers.now) }
+    ensures few { IfOk result (λ all. labels_of all.series.items ≤ length index.now) }
     ensures exact { Gives IndexRefusal.NoMemory (λ all. all.series.items) result
         (all_at index.now symbols.now None None numbers.now) }
     ensures ranked { IfOk result (λ all. AreRanked symbols.now all.series.items all.ranks.items) }
@@ -240,7 +242,7 @@ pub(crate) fn whole_lent<'a>(
     let numbers = list_of(alloc, part, rows, "", "")?;
     test_present(toc, numbers.members())?;
     let all = all_series(alloc, index, symbols, numbers.members())?;
-    test_lists(toc, part, rows)?;
+    test_lists(toc, part, rows, all.series.as_slice())?;
     match differing_place(alloc, part, rows, symbols, numbers.members(), &all)? {
         None => Ok(List::from_vec(all.series)),
         Some(place) => Err(IndexRefusal::PostingsDiffer(place as u32)),

@@ -1,4 +1,4 @@
--- The postings lists that are written are few for the bytes before the table.
+-- The postings lists that are written are few, as they stand before the table.
 use Rattle.std.proofs.Common.{◌≡◌, ℕ, ◌+◌, ◌-◌, ◌*◌, ◌^◌, ◌<◌, ◌≤◌, List, [], ◌∷◌, ◌++◌, length, drop, map, refl, sym, ap, ◌∙◌, arith, append_assoc, length-append}
 use Rattle.std.specs.Int.{w32, to_be_bytes}
 use Rattle.std.specs.List.{sum_by}
@@ -9,6 +9,7 @@ use Rattle.wire_bytes.specs.Crc.{crc}
 use Rattle.wire_bytes.proofs.FixedLaws.{wide32, number_again}
 use Rattle.index_parts.specs.Framed.{section_text}
 use Rattle.index_parts.specs.Lists.{list_content}
+use Rattle.index_parts.specs.IndexFile.{labels_of}
 use Rattle.index_parts.specs.Parts.{file, told, list_size, lists_size}
 use Rattle.index_parts.specs.Placed.{at_place}
 use Rattle.index_parts.specs.Postings.{postings_text}
@@ -75,7 +76,7 @@ offsets_same f symbols (row ∷ rows) (place ∷ places) many =
     let first : PostingsRow = record { name = symbol_of symbols row.name; value = symbol_of symbols row.value; offset = place } in
     omega (arith, offsets_same f symbols rows places (omega (arith, many)), sum_by-cons f place places, sum_by-cons (λ (r : PostingsRow). f r.offset) first (label_rows symbols rows places))
 
-pub lists_few : (list : List IndexSeries) → length (written list) ≤ greatest → lists_size (file (written list)) (table list) ≤ 8 * (toc_of (parts_of list)).postings_table
+pub lists_few : (list : List IndexSeries) → length (written list) ≤ greatest → lists_size (file (written list)) (table list) ≤ 8 * ((toc_of (parts_of list)).postings_table + length (table list) + labels_of list)
 unfolding parts_of toc_of with_lists with_label_offsets each_at places_at
 lists_few list room =
     let f = list_size (file (written list)) in

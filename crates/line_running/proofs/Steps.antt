@@ -59,7 +59,7 @@ done_by (Err why) P Q f holds = tt
 
 -- a worker's part that it did from its seat
 pub part_step : (setting : Setting) (seat : Hand → ℕ) (own : ℕ) (place : ℕ) (task : Task) (hand : Hand) (views : Holdings) (gateways : List Sight) (old new : List Entry) (sight : Sight) (came : Result Part Broken) → own ≡ seat hand
-    → (d : HasDone setting (who_does seat hand) place task.work (holding_of views (gateway_of hand)) own old new sight came) → WhenDone came (AreSeen (with_holding views (gateway_of hand) d.after) gateways) → PartStep (line setting seat) (duty_of place task hand) views gateways old new came
+    → (d : HasDone (TaskRun setting (who_does seat hand) place task.work (holding_of views (gateway_of hand))) (IsPart task.work) own old new sight came) → WhenDone came (AreSeen (with_holding views (gateway_of hand) d.after) gateways) → PartStep (line setting seat) (duty_of place task hand) views gateways old new came
 part_step setting seat own place task hand views gateways old new sight came same d shows = record {
   made = d.made;
   entries = d.entries;
@@ -69,11 +69,11 @@ part_step setting seat own place task hand views gateways old new sight came sam
   run = d.run;
   shows = shows;
   by = d.by;
-  due = subst (λ (s : ℕ). WhenFull came (IsDueAfter (Does setting (who_does seat hand) place task.work (holding_of views (gateway_of hand))) s d.made)) same d.due;
+  due = subst (λ (s : ℕ). WhenFull came (IsDueAfter (Does (TaskRun setting (who_does seat hand) place task.work (holding_of views (gateway_of hand)))) s d.made)) same d.due;
 }
 
 pub alone_step : (setting : Setting) (seat : Hand → ℕ) (own : ℕ) (place number : ℕ) (task : Task) (hand : Hand) (views : Holdings) (gateways : List Sight) (old new : List Entry) (sight : Sight) (came : Result Part Broken) → hand ≡ hands.Alone number → own ≡ seat hand
-    → HasDone setting (who_does seat (hands.Alone number)) place task.work nothing_held own old new sight came → AreSeen views gateways → PartStep (line setting seat) (duty_of place task hand) views gateways old new came
+    → HasDone (TaskRun setting (who_does seat (hands.Alone number)) place task.work nothing_held) (IsPart task.work) own old new sight came → AreSeen views gateways → PartStep (line setting seat) (duty_of place task hand) views gateways old new came
 alone_step setting seat own place number task hand views gateways old new sight came is same d shows =
     subst (λ (h : Hand). PartStep (line setting seat) (duty_of place task h) views gateways old new came) (sym is)
     (part_step setting seat own place task (hands.Alone number) views gateways old new sight came (same ∙ ap seat is) d (when_done came (AreSeen views gateways) shows))
@@ -101,7 +101,7 @@ set_shows views number held gateways gateway shows is = λ place x at. shows_at 
 
 pub gateway_step : (setting : Setting) (seat : Hand → ℕ) (own : ℕ) (place : ℕ) (task : Task) (hand : Hand) (views : Holdings) (gateways : List Sight) (old new : List Entry) (came : Result Part Broken) (number : ℕ) (before gateway : Sight) → hand ≡ hands.Gateway number
     → own ≡ seat hand → slice_get gateways number ≡ Some before
-    → ((held : Holding) → Sees held before → HasDone setting (who_does seat (hands.Gateway number)) place task.work held own old new gateway came)
+    → ((held : Holding) → Sees held before → HasDone (TaskRun setting (who_does seat (hands.Gateway number)) place task.work held) (IsPart task.work) own old new gateway came)
     → AreSeen views gateways → PartStep (line setting seat) (duty_of place task hand) views (set gateways number gateway) old new came
 gateway_step setting seat own place task hand views gateways old new came number before gateway is same at done shows =
     let d = done (views number) (shows number before at) in

@@ -55,7 +55,7 @@ pub record PartStep (line : Line) (duty : Duty) (views : Holdings) (gateways : L
   pub run : TaskRun line.setting (who_does line.seat duty.hand) duty.place duty.task.work (holding_of views (gateway_of duty.hand)) made end after
   pub shows : WhenDone came (AreSeen (with_holding views (gateway_of duty.hand) after) gateways)
   pub by : CameBy duty.task.work end came
-  pub due : WhenFull came (IsDueAfter (Does line.setting (who_does line.seat duty.hand) duty.place duty.task.work (holding_of views (gateway_of duty.hand))) (line.seat duty.hand) made)
+  pub due : WhenFull came (IsDueAfter (Does (TaskRun line.setting (who_does line.seat duty.hand) duty.place duty.task.work (holding_of views (gateway_of duty.hand)))) (line.seat duty.hand) made)
 
 -- the task has come to all its ends, or the full journal left one out
 abbrev pub IsWhole : Setting → ℕ → Task → List End → Result Outcome Broken → Type 0

@@ -9,8 +9,10 @@ ghost use Rattle.report_lines.specs.script_running.specs.declared.sight.Sight.{S
 ghost use Rattle.run_notes.specs.LineHands.{KeepsRun};
 ghost use Rattle.line_running.specs.Progress.{RunCame};
 
+use crate::gated_hand::GatedHand;
 use crate::phases::{Progress, run_phases};
 use bucket_core::Bucket;
+use phase_runner::Gate;
 use report_lines::PhaseReport;
 use report_lines::script_running::{Broken, Means, ShelfBlock, selector_texts};
 use run_notes::LineHand;
@@ -19,12 +21,13 @@ use std::alloc::Global;
 use world_core::World;
 
 /// Does the tasks one after another, in the order of their lines, and reports those of the phases that are finished. What broke the
-/// run off, if anything did, comes with the report and with the hand that did it all.
-pub fn do_in_line<B: Bucket, R: PhaseReport + Drop>(
+/// run off, if anything did, comes with the report and with the hand that did it all. The gate is told how far the run is.
+pub fn do_in_line<B: Bucket, R: PhaseReport + Drop, G: Gate>(
     alloc: Global,
     script: &Script,
     shelf: &[ShelfBlock],
     world: World<B>,
+    gate: &G,
 ) -> (Result<(), Broken>, R, LineHand<B>)
     requires lawful { IsLawfulScript script.now }
     requires at_hand { AreAllAtHand script.now shelf.now }
@@ -42,7 +45,7 @@ pub fn do_in_line<B: Bucket, R: PhaseReport + Drop>(
     ensures keeps { KeepsRun B.told world false world
         result.2.opened.value result.2.wanted result.2.world }
 {
-    let mut hand = LineHand::new(world);
+    let hand = LineHand::new(world);
     let Ok(texts) = selector_texts(alloc, &script.selectors) else {
         return (Err(Broken::NoMemory), R::empty(alloc), hand);
     };
@@ -50,6 +53,8 @@ pub fn do_in_line<B: Bucket, R: PhaseReport + Drop>(
         return (Err(Broken::NoMemory), R::empty(alloc), hand);
     };
     let means = Means::lend(alloc, script, shelf, texts.members());
-    let came = run_phases(alloc, script, &means, &mut progress, &mut hand);
-    (came, progress.into_report(), hand)
+    let mut gated = GatedHand::new(hand, gate);
+    let came = run_phases(alloc, script, &means, &mut progress, &mut gated);
+    gate.ends();
+    (came, progress.into_report(), gated.into_hand())
 }

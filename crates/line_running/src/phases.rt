@@ -18,13 +18,14 @@ ghost use Rattle.run_notes.specs.RunHands.{TurnedRun};
 ghost use Rattle.line_running.specs.Progress.{HaveMeans, PhaseStep, Reached, RunCame, TasksBroken, TasksDone};
 ghost use Rattle.line_running.specs.Lines.{line_of};
 
+use crate::gated_hand::GatedHand;
 use crate::seats::Seats;
 use crate::tasks::{PhaseWork, do_task};
 use base::NoMemory;
 use bucket_core::Bucket;
+use phase_runner::Gate;
 use report_lines::PhaseReport;
 use report_lines::script_running::{Broken, Means, Sight};
-use run_notes::LineHand;
 use script_core::{Phase, Script};
 use std::alloc::Global;
 use world_core::{Acted, Hand, Op};
@@ -78,12 +79,12 @@ impl<R: PhaseReport + Drop> Progress<R> {
 }
 
 /// Runs the phases in order.
-pub(crate) fn run_phases<B: Bucket, R: PhaseReport + Drop>(
+pub(crate) fn run_phases<B: Bucket, R: PhaseReport + Drop, G: Gate>(
     alloc: Global,
     script: &Script,
     means: &Means<'_>,
     progress: &mut Progress<R>,
-    hand: &mut LineHand<B>,
+    hand: &mut GatedHand<'_, B, G>,
 ) -> Result<(), Broken>
     requires lawful { IsLawfulScript script.now }
     requires lent { means.now.script ≡ script.now }
@@ -97,19 +98,20 @@ pub(crate) fn run_phases<B: Bucket, R: PhaseReport + Drop>(
         (is_short_came result) }
 {
     for place in 0..script.phases.len() {
+        hand.begins(place, script.phases.len());
         run_phase(alloc, script, means, place, progress, hand)?;
     }
     Ok(())
 }
 
 /// Sets the clock, and then runs the tasks in the order of their lines.
-fn run_phase<B: Bucket, R: PhaseReport + Drop>(
+fn run_phase<B: Bucket, R: PhaseReport + Drop, G: Gate>(
     alloc: Global,
     script: &Script,
     means: &Means<'_>,
     place: usize,
     progress: &mut Progress<R>,
-    hand: &mut LineHand<B>,
+    hand: &mut GatedHand<'_, B, G>,
 ) -> Result<(), Broken>
     requires lawful { IsLawfulScript script.now }
     requires lent { means.now.script ≡ script.now }
@@ -145,7 +147,10 @@ fn run_phase<B: Bucket, R: PhaseReport + Drop>(
 }
 
 /// Sets the clock to the moment of the phase.
-fn begin_phase<B: Bucket>(phase: &Phase, hand: &mut LineHand<B>) -> Result<(), Broken>
+fn begin_phase<B: Bucket, G: Gate>(
+    phase: &Phase,
+    hand: &mut GatedHand<'_, B, G>,
+) -> Result<(), Broken>
     requires moment { phase.now.moment.ms < moment_limit }
     ensures begun { OnOk result ((clock : Entry) × BeginsPhase phase.now clock
         × (hand.new.world.journal ≡ hand.old.world.journal ++ clock ∷ [])) }
@@ -163,10 +168,10 @@ fn begin_phase<B: Bucket>(phase: &Phase, hand: &mut LineHand<B>) -> Result<(), B
 }
 
 /// Runs tasks, and tells how they came out.
-fn run_tasks<B: Bucket, R: PhaseReport + Drop>(
+fn run_tasks<B: Bucket, R: PhaseReport + Drop, G: Gate>(
     phase: &PhaseWork<'_>,
     sights: &mut [Sight],
-    hand: &mut LineHand<B>,
+    hand: &mut GatedHand<'_, B, G>,
 ) -> Result<R, Broken>
     requires means { HaveMeans phase.now.script.now phase.now.means.now phase.now.tasks.now
         (length sights.old) }
@@ -188,12 +193,12 @@ fn run_tasks<B: Bucket, R: PhaseReport + Drop>(
 }
 
 /// Runs the task at a place, and adds its lines to those of the tasks before it.
-fn next_task<B: Bucket, R: PhaseReport + Drop>(
+fn next_task<B: Bucket, R: PhaseReport + Drop, G: Gate>(
     phase: &PhaseWork<'_>,
     place: usize,
     sights: &mut [Sight],
     lines: &mut R,
-    hand: &mut LineHand<B>,
+    hand: &mut GatedHand<'_, B, G>,
 ) -> Result<(), Broken>
     requires means { HaveMeans phase.now.script.now phase.now.means.now phase.now.tasks.now
         (length sights.old) }

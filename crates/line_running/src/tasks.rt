@@ -13,12 +13,13 @@ ghost use Rattle.report_lines.specs.script_running.specs.Tasks.{Allows, is_full_
 ghost use Rattle.run_notes.specs.RunHands.{TurnedRun};
 ghost use Rattle.line_running.specs.Progress.{PartStep, TaskStep, line_by};
 
+use crate::gated_hand::GatedHand;
 use crate::seats::Seats;
 use base::NoMemory;
 use bucket_core::Bucket;
+use phase_runner::Gate;
 use querier::InTurn;
 use report_lines::script_running::{Broken, Means, Outcome, Part, Sight, outcome_of, run_task};
-use run_notes::LineHand;
 use script_core::{Hand, Script, Task, Work};
 use std::alloc::Global;
 
@@ -33,12 +34,12 @@ pub(crate) struct PhaseWork<'a> {
 }
 
 /// Does the task at a place, before the next one begins: those who do it come one after another, and what they came to is gathered.
-pub(crate) fn do_task<B: Bucket>(
+pub(crate) fn do_task<B: Bucket, G: Gate>(
     phase: &PhaseWork<'_>,
     task: &Task,
     place: usize,
     sights: &mut [Sight],
-    hand: &mut LineHand<B>,
+    hand: &mut GatedHand<'_, B, G>,
 ) -> Result<Outcome, Broken>
     requires lawful { IsLawfulScript phase.now.means.now.script }
     requires work { Allows phase.now.means.now.script task.now.work }
@@ -102,12 +103,12 @@ fn own_hand(work: &Work, place: usize) -> Hand
 }
 
 /// Does one worker's part of a task, from the seat at which the hand is.
-fn do_part<B: Bucket>(
+fn do_part<B: Bucket, G: Gate>(
     means: &Means<'_>,
     task: &Task,
     who: Hand,
     sights: &mut [Sight],
-    hand: &mut LineHand<B>,
+    hand: &mut GatedHand<'_, B, G>,
 ) -> Result<Part, Broken>
     requires work { Allows means.now.script task.now.work }
     requires within { IfSome (gateway_of who) (λ gateway. gateway < length sights.old) }

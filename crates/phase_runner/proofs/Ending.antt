@@ -17,9 +17,8 @@ module _ {J E : Type 0} (may : Meaning J E) (tells : Telling E) (table : TableId
   abbrev after : Work J E → Option Pass × Option E
   after w = (w.pass, w.end)
 
-  ended : (seat : ℕ) (job : J) (old new : Pass) (end : E) → IsSeated table v seat old → IsRun may tells job old end new → IsEnded may tells table v seat job new end
+  ended : (seat : ℕ) (job : J) (old new : Pass) (end : E) → IsSeated table v seat old → IsRun may tells job old end new → IsEnded may tells v seat job new end
   ended seat job old new end n r = record {
-    table_is = r.table ∙ n.table_is;
     sits = r.seat ∙ n.sits;
     run = subst (λ (es : List Entry). may job seat es (Some (view_of new).front) end) (sym (r.run.1 ∙ ap (λ o. o ++ r.run.0) n.own)) (subst (λ (m : ℕ). may job m r.run.0 (Some (view_of new).front) end) n.sits r.run.2);
     stand = subst (λ (es : List Entry). Stand v.known es (view_of new).front) (sym (r.later.made.1 ∙ ap (λ o. o ++ r.later.made.0) n.own)) (subst (λ (m : ℕ). Stand m r.later.made.0 (view_of new).front) n.known r.later.made.2);
@@ -33,7 +32,7 @@ module _ {J E : Type 0} (may : Meaning J E) (tells : Telling E) (table : TableId
     where
       cases : (j : Option J) (p : Option Pass) (e : Option E) (q : Option Pass) → AreSeated table v seat (job ∷ jobs) ((j, p) ∷ map before ws) → IsDone may tells j p e q
           → AreEnded may tells table v seat (job ∷ jobs) ((q, e) ∷ map after ws')
-      cases (Some j) (Some p) (Some e) (Some q) a d = (ended seat job p q e a.1 (subst (λ (x : J). IsRun may tells x p e q) a.0 d), next a.2)
+      cases (Some j) (Some p) (Some e) (Some q) a d = (d.table ∙ (a.1).table_is, ended seat job p q e a.1 (subst (λ (x : J). IsRun may tells x p e q) a.0 d), next a.2)
       cases None p e q a d = absurd a
       cases (Some j) None e q a d = absurd a
       cases (Some j) (Some p) None q a d = absurd d

@@ -59,7 +59,8 @@ module _ {J E : Type 0} (may : Meaning J E) (tells : Telling E) where
     pub e : E
     pub pass_is : pass ≡ Some p
     pub end_is : end ≡ Some e
-    pub ended : IsEnded may tells table v seat job p e
+    pub table_is : table_of p ≡ table
+    pub ended : IsEnded may tells v seat job p e
     pub later : AreEnded may tells table v (seat + 1) others works
 
   pub opened : (table : TableId) (v : View) (seat : ℕ) (rest : List J) (pass : Option Pass) (end : Option E) (works : List (Option Pass × Option E))
@@ -67,7 +68,7 @@ module _ {J E : Type 0} (may : Meaning J E) (tells : Telling E) where
   opened table v seat [] pass end works a = absurd a
   opened table v seat (j ∷ js) None end works a = absurd a
   opened table v seat (j ∷ js) (Some p) None works a = absurd a
-  opened table v seat (j ∷ js) (Some p) (Some e) works a = record { job = j; others = js; jobs = refl; p = p; e = e; pass_is = refl; end_is = refl; ended = a.0; later = a.1 }
+  opened table v seat (j ∷ js) (Some p) (Some e) works a = record { job = j; others = js; jobs = refl; p = p; e = e; pass_is = refl; end_is = refl; table_is = a.0; ended = a.1; later = a.2 }
 
   seat_is : (above : ℕ) (front : List Entry) (seat seat' : ℕ) (job : J) (end : E) (k : ℕ × List Entry) → seat ≡ seat' → RanTo may above front seat job end k → RanTo may above front seat' job end k
   seat_is above front seat seat' job end k e r = subst (λ (n : ℕ). RanTo may above front n job end k) e r
@@ -134,7 +135,7 @@ module _ {J E : Type 0} (may : Meaning J E) (tells : Telling E) where
       go (job ∷ jobs) parts a =
           let j = h.joined in
           let k : ℕ × List Entry = ((view_of pass).seat, (view_of pass).own) in
-          let sits : k.0 ≡ seat + length h.done = pass.rests.sits ∙ a.0.sits in
+          let sits : k.0 ≡ seat + length h.done = pass.rests.sits ∙ a.1.sits in
           let known = j.known in
           let more = max_more (view_of first).known (view_of root).known (view_of pass).known known in
           let longer : length (h.done ++ job ∷ []) ≡ length h.done + 1 = length-append h.done (job ∷ []) in
@@ -142,7 +143,7 @@ module _ {J E : Type 0} (may : Meaning J E) (tells : Telling E) where
             done = h.done ++ job ∷ [];
             rest = jobs;
             parts = parts ∙ sym (append_assoc h.done (job ∷ []) jobs);
-            left = subst (λ (m : ℕ). AreEnded may tells table v m jobs works) (omega arith) a.1;
+            left = subst (λ (m : ℕ). AreEnded may tells table v m jobs works) (omega arith) a.2;
             kept = h.kept ++ k ∷ [];
             joined = record {
               table = of ∙ j.table;
@@ -159,11 +160,11 @@ module _ {J E : Type 0} (may : Meaning J E) (tells : Telling E) where
                   seated = sits;
                   seen = (view_of pass).front;
                   within = is.second;
-                  run = a.0.run;
-                  stand = stand_more v.known v.known k.1 (view_of pass).front (view_of next).front (le_refl v.known) a.0.stand is.second;
+                  run = a.1.run;
+                  stand = stand_more v.known v.known k.1 (view_of pass).front (view_of next).front (le_refl v.known) a.1.stand is.second;
                 };
-            refused = any_joined tells.full ends end (view_of first).refused (view_of root).refused (view_of pass).refused (view_of next).refused is.refused a.0.refused h.refused;
-            wanted = any_wanted tells.wanted ends end (view_of root).wanted (view_of pass).wanted (view_of next).wanted (IsTrue (view_of first).wanted) is.wanted a.0.wanted h.wanted;
+            refused = any_joined tells.full ends end (view_of first).refused (view_of root).refused (view_of pass).refused (view_of next).refused is.refused a.1.refused h.refused;
+            wanted = any_wanted tells.wanted ends end (view_of root).wanted (view_of pass).wanted (view_of next).wanted (IsTrue (view_of first).wanted) is.wanted a.1.wanted h.wanted;
           }
 
   pub all_taken : (table : TableId) (v : View) (seat : ℕ) (all : List J) (first root : Pass) (works : List (Option Pass × Option E)) (ends : List E) → HasTaken table v seat all first root works ends → works ≡ []

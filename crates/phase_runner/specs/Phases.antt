@@ -71,19 +71,18 @@ pub record HasSplit (old new : Pass) (count : ℕ) : Type 0 where
   pub tick : (view_of new).tick ≡ (view_of old).tick
 
 -- the job of a seat came to its end, with the pass that it was given
-pub record IsEnded {J E : Type 0} (may : Meaning J E) (tells : Telling E) (table : TableId) (v : View) (seat : ℕ) (job : J) (pass : Pass) (end : E) : Type 0 where
-  pub table_is : table_of pass ≡ table
+pub record IsEnded {J E : Type 0} (may : Meaning J E) (tells : Telling E) (v : View) (seat : ℕ) (job : J) (pass : Pass) (end : E) : Type 0 where
   pub sits : pass.seat ≡ seat
   pub run : may job seat (view_of pass).own (Some (view_of pass).front) end
   pub stand : Stand v.known (view_of pass).own (view_of pass).front
   pub refused : (view_of pass).refused ≡ tells.full end
   pub wanted : IsTrue (view_of pass).wanted → IsTrue (tells.wanted end)
 
--- all jobs came to their ends
+-- all jobs came to their ends, with passes of this table
 abbrev pub AreEnded : {J E : Type 0} → Meaning J E → Telling E → TableId → View → ℕ → List J → List (Option Pass × Option E) → Type 0
 AreEnded may tells table v seat [] [] = Unit {0}
 AreEnded may tells table v seat (job ∷ jobs) ((Some pass, Some end) ∷ works) =
-    IsEnded may tells table v seat job pass end × AreEnded may tells table v (seat + 1) jobs works
+    (table_of pass ≡ table) × IsEnded may tells v seat job pass end × AreEnded may tells table v (seat + 1) jobs works
 AreEnded may tells table v seat jobs works = ⊥
 
 -- the root, after it took in passes

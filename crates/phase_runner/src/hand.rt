@@ -1,10 +1,11 @@
 //! The hand of one worker in its thread: each operation takes a turn on the shared world. The gate is asked before the
-//! turn is, so that a worker that is held up there keeps no other waiting.
+//! turn is, so that a worker that is held up there keeps no other waiting, and told of the operation behind it.
 
 ghost use Rattle.std.specs.Prelude.{◌≡◌};
 ghost use Rattle.world_turn.specs.Passes.{table_of, view_of};
 
 use crate::Gate;
+use crate::gate::{put_bytes, tell_moved};
 use bucket_core::Bucket;
 use std::marker::Model;
 use std::sync::Wait;
@@ -95,7 +96,9 @@ impl<'a, B: Bucket, G: Gate, R: Wait> Hand for TurnHand<'a, B, G, R> {
             unreachable!()
         };
         self.gate.before(pass.seat(), self.number);
+        let put = put_bytes(&op);
         let (acted, pass) = self.shared.act(self.rt, pass, op);
+        tell_moved(self.gate, put, &acted);
         self.number = number_after(self.number, &acted);
         self.pass = Some(pass);
         acted

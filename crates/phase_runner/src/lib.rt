@@ -9,7 +9,7 @@ mod phase;
 mod shares;
 mod work;
 
-pub use gate::{Gate, Open};
+pub use gate::{Gate, Open, put_bytes, tell_moved};
 pub use hand::TurnHand;
 pub use job::Job;
 pub use phase::{PhaseEnd, run_phase};

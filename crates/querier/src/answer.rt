@@ -1,3 +1,5 @@
+//! What answers a query, or a gateway's part of one: samples, the uploads that they are of, and who names which.
+
 ghost use Rattle.std.specs.Prelude.{◌≡◌, []};
 ghost use Rattle.querier.specs.Gathered.{IsComparedWith};
 

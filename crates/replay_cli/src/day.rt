@@ -15,15 +15,17 @@ use call_verdicts::script_running::Broken;
 use call_verdicts::{Ended, Verdict};
 use generated_day::generated_script;
 use line_running::do_in_line;
+use phase_runner::Gate;
 use run_notes::{Finished, RunNote};
 use script_core::Script;
 use std::alloc::Global;
 use world_core::{Entry, Journal, World};
 
 /// Runs the generated day with this number. The bucket is its own, and is not handed back; the note of the run comes beside.
-pub(crate) fn run_day<B: Bucket, F>(
+pub(crate) fn run_day<B: Bucket, F, G: Gate>(
     alloc: Global,
     number: u64,
+    gate: &G,
 ) -> (Ended<B, F>, Option<RunNote<MemoryBucket>>)
     ensures came { IsSomeAnd result.0.journal
         (λ entries. IsDayRun number entries result.0.verdict) }
@@ -32,7 +34,7 @@ pub(crate) fn run_day<B: Bucket, F>(
     ensures note { result.0.note ≡ None }
     ensures noted { IsDayNoted result.0.verdict result.0.journal result.1 }
 {
-    let (verdict, journal, note) = run_alone(alloc, number);
+    let (verdict, journal, note) = run_alone(alloc, number, gate);
     let ended = Ended {
         verdict,
         journal: Some(journal),
@@ -44,7 +46,11 @@ pub(crate) fn run_day<B: Bucket, F>(
 }
 
 /// What the day comes to, the journal over its bucket, and the note of the run, where one began.
-fn run_alone(alloc: Global, number: u64) -> (Verdict, Journal, Option<RunNote<MemoryBucket>>)
+fn run_alone<G: Gate>(
+    alloc: Global,
+    number: u64,
+    gate: &G,
+) -> (Verdict, Journal, Option<RunNote<MemoryBucket>>)
     ensures came { IsDayRun number result.1 result.0 }
     ensures noted { IsDayNoted result.0 (Some result.1) result.2 }
 {
@@ -54,7 +60,7 @@ fn run_alone(alloc: Global, number: u64) -> (Verdict, Journal, Option<RunNote<Me
     let bucket = MemoryBucket::new(alloc, FailList::new(alloc));
     match World::open(alloc, bucket, script.rules.tick) {
         Ok(world) => {
-            let (verdict, journal, bucket, note) = run_script(alloc, &script, world);
+            let (verdict, journal, bucket, note) = run_script(alloc, &script, world, gate);
             drop(bucket);
             drop(script);
             (verdict, journal, note)
@@ -68,10 +74,11 @@ fn run_alone(alloc: Global, number: u64) -> (Verdict, Journal, Option<RunNote<Me
 }
 
 /// Does the tasks of a script that takes nothing from a shelf, one after another.
-fn run_script<B: Bucket>(
+fn run_script<B: Bucket, G: Gate>(
     alloc: Global,
     script: &Script,
     world: World<B>,
+    gate: &G,
 ) -> (Verdict, Journal, B, Option<RunNote<B>>)
     requires lawful { IsLawfulScript script.now }
     requires fresh { world.journal ≡ [] }
@@ -82,7 +89,7 @@ fn run_script<B: Bucket>(
     ensures unfailed { (B.told world.bucket).quiet → failed_count result.1 ≡ 0 }
     ensures noted { IsNoted met B.told result.0 (Some result.1) (Some result.2) result.3 }
 {
-    let (came, tally, hand) = do_in_line(alloc, script, &[], world);
+    let (came, tally, hand) = do_in_line(alloc, script, &[], world, gate);
     let world = hand.world();
     let journal = world.journal();
     let verdict = verdict_on(alloc, script, journal.entries(), came, tally);

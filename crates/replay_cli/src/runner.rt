@@ -23,17 +23,18 @@ use std::thread::Threads;
 use world_core::{Entry, World};
 
 /// Does the tasks one after another, in the order of their lines. The world comes with the note of its operations.
-pub(crate) fn run_in_line<B: Bucket>(
+pub(crate) fn run_in_line<B: Bucket, G: Gate>(
     alloc: Global,
     script: &Script,
     shelf: &[ShelfBlock],
     world: World<B>,
+    gate: &G,
 ) -> (Verdict, Finished<B>)
     requires { MayRun B.told script.now shelf.now world }
     ensures { HasRun in_line B.told (setting_by script.now shelf.now) world
         result.0 result.1.world result.1.note }
 {
-    let (came, report, hand) = do_in_line(alloc, script, shelf, world);
+    let (came, report, hand) = do_in_line(alloc, script, shelf, world, gate);
     let world = hand.world();
     let journal = world.journal();
     let verdict = verdict_of(alloc, script, journal.entries(), came, report);

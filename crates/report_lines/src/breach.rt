@@ -8,7 +8,7 @@ ghost use Rattle.report_lines.specs.BreachLines.{HasBreach, breach_text};
 
 use crate::report::put_breach;
 use base::NoMemory;
-use breach_finding::find_breach;
+use breach_finding::breach;
 use script_core::Script;
 use std::alloc::Global;
 use world_core::Entry;
@@ -26,6 +26,6 @@ pub fn put_breach_of(
     ensures { OnOk result ((breach : Option Breach) × HasBreach script.now journal.now breach
         × (out.new.items ≡ out.old.items ++ breach_text breach)) }
 {
-    let breach = find_breach(alloc, journal, script)?;
+    let breach = breach(alloc, journal, script)?;
     put_breach(out, breach)
 }

@@ -20,7 +20,7 @@ use Rattle.script_workers.specs.declared.phase.Phase.{Phase}
 use Rattle.script_workers.specs.declared.task.Task.{Task}
 use Rattle.script_workers.specs.declared.worker.Worker.{Worker}
 use Rattle.world_core.specs.Journals.{of_seat}
-use Rattle.lifecycle_core.specs.Conducts.{PhaseRun, who_of}
+use Rattle.lifecycle_core.specs.Conducts.{PhaseRun, who_of, TasksAt}
 use Rattle.lifecycle_core.specs.Holdings.{Holding, Holdings, holding_of}
 use Rattle.lifecycle_core.specs.Phases.{by_script}
 use Rattle.lifecycle_core.specs.Setting.{Setting}
@@ -48,13 +48,13 @@ module _ (script : Script) (shelf : List ShelfBlock) (loan : Loan) (lent : loan.
   own_setting = setting_by script shelf
 
   has_worked : (worker : Worker) (post : Post) (seat : ℕ) (made : List Entry) (seen : List Entry) (end : WorkerEnd) → IsPostOf loan number before worker post → MayWork post seat made (Some seen) end
-      → HasWorked own_setting phase.tasks (who_of worker) worker.tasks (holding_of before worker.gateway) seat [] made end
+      → HasWorked (TasksAt phase.tasks worker.tasks) (OwnRun own_setting (who_of worker) (holding_of before worker.gateway)) seat [] made end
   has_worked worker post seat made seen end p may =
       let found : slice_get post.loan.script.phases post.phase ≡ Some phase = ap (λ (l : Loan). slice_get l.script.phases post.phase) p.loan_is ∙ ap (λ (s : Script). slice_get s.phases post.phase) lent ∙ ap (slice_get script.phases) p.phase_is ∙ at in
-      subst (λ (s : Script). HasWorked (setting_by s shelf) phase.tasks (who_of worker) worker.tasks (holding_of before worker.gateway) seat [] made end) lent
-      (subst (λ (s : List ShelfBlock). HasWorked (setting_by loan.script s) phase.tasks (who_of worker) worker.tasks (holding_of before worker.gateway) seat [] made end) its
-      (subst (λ (l : Loan). HasWorked (setting_in l) phase.tasks (who_of worker) worker.tasks (holding_of before worker.gateway) seat [] made end) p.loan_is
-      (subst (λ (w : Worker). HasWorked (setting_in post.loan) phase.tasks (who_of w) w.tasks (holding_of before worker.gateway) seat [] made end) p.worker_is
+      subst (λ (s : Script). HasWorked (TasksAt phase.tasks worker.tasks) (OwnRun (setting_by s shelf) (who_of worker) (holding_of before worker.gateway)) seat [] made end) lent
+      (subst (λ (s : List ShelfBlock). HasWorked (TasksAt phase.tasks worker.tasks) (OwnRun (setting_by loan.script s) (who_of worker) (holding_of before worker.gateway)) seat [] made end) its
+      (subst (λ (l : Loan). HasWorked (TasksAt phase.tasks worker.tasks) (OwnRun (setting_in l) (who_of worker) (holding_of before worker.gateway)) seat [] made end) p.loan_is
+      (subst (λ (w : Worker). HasWorked (TasksAt phase.tasks w.tasks) (OwnRun (setting_in post.loan) (who_of w) (holding_of before worker.gateway)) seat [] made end) p.worker_is
       (may.worked phase (holding_of before worker.gateway) found p.sees))))
 
   has_ended : (worker : Worker) (post : Post) (seat : ℕ) (kept : Kept) (end : WorkerEnd) → worker.seat ≡ seat → IsPostOf loan number before worker post → RanTo MayWork above front seat post end kept

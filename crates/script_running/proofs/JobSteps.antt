@@ -10,12 +10,12 @@ use Rattle.script_core.specs.declared.script.Script.{Script}
 use Rattle.script_workers.specs.declared.phase.Phase.{Phase}
 use Rattle.script_workers.specs.declared.task.Task.{Task}
 use Rattle.script_workers.specs.declared.worker.Worker.{Worker}
-use Rattle.lifecycle_core.specs.Conducts.{Who, who_of}
+use Rattle.lifecycle_core.specs.Conducts.{Who, who_of, TasksAt}
 use Rattle.lifecycle_core.specs.Holdings.{Holding, Use}
 use Rattle.lifecycle_core.specs.Setting.{Setting}
 use Rattle.script_running.specs.Lending.{setting_in}
 use Rattle.script_running.specs.Sights.{Sees, cache_of}
-use Rattle.script_running.specs.Workers.{HasWorked, IsAtWork, MayWork, Post}
+use Rattle.script_running.specs.Workers.{HasWorked, IsAtWork, MayWork, Post, OwnRun}
 use Rattle.script_running.specs.declared.came.Broken.TheVariants as broken
 use Rattle.script_running.specs.declared.sight.Sight.{Sight}
 use Rattle.script_running.specs.declared.worker.WorkerEnd.{WorkerEnd}
@@ -42,8 +42,8 @@ holds_it : (sight : Sight) → Sees (holds sight) sight
 holds_it sight = record { view_is = uses_it sight.view; cache_is = refl }
 
 -- the entries alone, without those of before
-alone : (setting : Setting) (tasks : List Task) (who : Who) (places : List ℕ) (before : Holding) (seat : ℕ) (old new : List Entry) (end : WorkerEnd) → HasWorked setting tasks who places before seat old new end
-    → HasWorked setting tasks who places before seat [] (drop (length old) new) end
+alone : (setting : Setting) (tasks : List Task) (who : Who) (places : List ℕ) (before : Holding) (seat : ℕ) (old new : List Entry) (end : WorkerEnd) → HasWorked (TasksAt tasks places) (OwnRun setting who before) seat old new end
+    → HasWorked (TasksAt tasks places) (OwnRun setting who before) seat [] (drop (length old) new) end
 alone setting tasks who places before seat old new end h = record {
   made = h.made;
   entries = ap (drop (length old)) h.entries ∙ rest old h.made;
@@ -58,18 +58,18 @@ alone setting tasks who places before seat old new end h = record {
   broken = h.broken;
 }
 
-gains : (setting : Setting) (tasks : List Task) (who : Who) (places : List ℕ) (before : Holding) (seat : ℕ) (old new : List Entry) (end : WorkerEnd) → HasWorked setting tasks who places before seat old new end → new ≡ old ++ drop (length old) new
+gains : (setting : Setting) (tasks : List Task) (who : Who) (places : List ℕ) (before : Holding) (seat : ℕ) (old new : List Entry) (end : WorkerEnd) → HasWorked (TasksAt tasks places) (OwnRun setting who before) seat old new end → new ≡ old ++ drop (length old) new
 gains setting tasks who places before seat old new end h = h.entries ∙ ap (λ (l : List Entry). old ++ l) (sym (ap (drop (length old)) h.entries ∙ rest old h.made))
 
 module _ (post : Post) (phase : Phase) (at : slice_get post.loan.script.phases post.phase ≡ Some phase) where
   -- whatever phase has its place, it is this one
-  at_place : (held : Holding) (seat : ℕ) (made : List Entry) (end : WorkerEnd) → HasWorked (setting_in post.loan) phase.tasks (who_of post.worker) post.worker.tasks held seat [] made end
-      → (one : Phase) → slice_get post.loan.script.phases post.phase ≡ Some one → HasWorked (setting_in post.loan) one.tasks (who_of post.worker) post.worker.tasks held seat [] made end
+  at_place : (held : Holding) (seat : ℕ) (made : List Entry) (end : WorkerEnd) → HasWorked (TasksAt phase.tasks post.worker.tasks) (OwnRun (setting_in post.loan) (who_of post.worker) held) seat [] made end
+      → (one : Phase) → slice_get post.loan.script.phases post.phase ≡ Some one → HasWorked (TasksAt one.tasks post.worker.tasks) (OwnRun (setting_in post.loan) (who_of post.worker) held) seat [] made end
   at_place held seat made end h one found =
-      subst (λ (p : Phase). HasWorked (setting_in post.loan) p.tasks (who_of post.worker) post.worker.tasks held seat [] made end) (one_value phase one (slice_get post.loan.script.phases post.phase) at found) h
+      subst (λ (p : Phase). HasWorked (TasksAt p.tasks post.worker.tasks) (OwnRun (setting_in post.loan) (who_of post.worker) held) seat [] made end) (one_value phase one (slice_get post.loan.script.phases post.phase) at found) h
 
   pub may_work : (seat : ℕ) (old new : List Entry) (front : Option (List Entry)) (end : WorkerEnd)
-      → ((who : Who) (held : Holding) → who.gateway ≡ post.worker.gateway → Sees held post.sight → HasWorked (setting_in post.loan) phase.tasks who post.worker.tasks held seat old new end) → (end.came ≡ Err broken.Full → IfSome front IsFull)
+      → ((who : Who) (held : Holding) → who.gateway ≡ post.worker.gateway → Sees held post.sight → HasWorked (TasksAt phase.tasks post.worker.tasks) (OwnRun (setting_in post.loan) who held) seat old new end) → (end.came ≡ Err broken.Full → IfSome front IsFull)
       → (made : List Entry) × (new ≡ old ++ made) × MayWork post seat made front end
   may_work seat old new front end worked full =
       let first = worked (who_of post.worker) (holds post.sight) refl (holds_it post.sight) in (

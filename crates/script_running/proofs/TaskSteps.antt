@@ -33,10 +33,10 @@ use Rattle.lifecycle_core.specs.Setting.{Setting}
 use Rattle.lifecycle_core.specs.Tasks.{End, PartTask, QueryTask, ShipTask, StoppedRun, TaskRun, answered, ask_to, called_with, cleaned, compacted, not_asked, question_of, sync_rules, synced, synced_with, without_view}
 use Rattle.lifecycle_core.proofs.phases.GatewayParts.{ask_partition}
 use Rattle.lifecycle_core.specs.Ways.{IsDueAfter}
-use Rattle.script_running.specs.Outcomes.{IsGatewayPart, Part}
+use Rattle.script_running.specs.Outcomes.{IsGatewayPart, Part, IsPart}
 use Rattle.script_running.proofs.Calls.{Called}
 use Rattle.script_running.specs.Sights.{Sees, cache_of}
-use Rattle.script_running.specs.Tasks.{Adds, Answers, CameAs, CameBy, Does, HasAsked, HasDone, WhenDone, WhenFull, view_by}
+use Rattle.script_running.specs.Tasks.{Adds, CameAs, CameBy, Does, HasAsked, HasDone, WhenDone, WhenFull, view_by}
 use Rattle.script_running.specs.declared.came.Broken.{Broken}
 use Rattle.script_running.specs.declared.came.Broken.TheVariants as broken
 use Rattle.script_running.specs.declared.came.Came.TheVariants as part
@@ -59,8 +59,8 @@ due_by one other seat made runs d = (d.0, d.1, λ seen answer. let next = d.2 se
 module _ (setting : Setting) (who : Who) (place : ℕ) (held : Holding) (seat : ℕ) (old new : List Entry) (came : Result Part Broken) where
   -- a run of an activity, with the end that it is for the task
   by_run : {E : Type 0} (work : Work) (is_run : List Entry → E → Type 0) (as_end : E → Option End) (end : E) (after : Holding) (sight : Sight) → (a : Adds is_run seat old new end came)
-      → ((made : List Entry) (e : E) → is_run made e → Does setting who place work held made (as_end e)) → TaskRun setting who place work held a.made (as_end end) after → WhenDone came (Sees after sight) → CameBy work (as_end end) came
-      → HasDone setting who place work held seat old new sight came
+      → ((made : List Entry) (e : E) → is_run made e → Does (TaskRun setting who place work held) made (as_end e)) → TaskRun setting who place work held a.made (as_end end) after → WhenDone came (Sees after sight) → CameBy work (as_end end) came
+      → HasDone (TaskRun setting who place work held) (IsPart work) seat old new sight came
   by_run {E} work is_run as_end end after sight a runs run sees by = record {
     made = a.made;
     entries = a.entries;
@@ -70,12 +70,12 @@ module _ (setting : Setting) (who : Who) (place : ℕ) (held : Holding) (seat : 
     run = run;
     sees = sees;
     by = by;
-    due = when_full came (IsDueAfter is_run seat a.made) (IsDueAfter (Does setting who place work held) seat a.made)
-        (due_by is_run (Does setting who place work held) seat a.made (λ es e one. (as_end e, runs es e one))) a.due;
+    due = when_full came (IsDueAfter is_run seat a.made) (IsDueAfter (Does (TaskRun setting who place work held)) seat a.made)
+        (due_by is_run (Does (TaskRun setting who place work held)) seat a.made (λ es e one. (as_end e, runs es e one))) a.due;
   }
 
   pub upload_done : (work : Work) (sight : Sight) (ulid : ℕ) (stop : Option ℕ) (block : Block) → work ≡ works.Upload ulid stop → declared setting.script ulid ≡ Some block
-      → (end : Option End) × Adds (ShipTask setting block stop) seat old new end came × CameBy (works.Upload ulid stop) end came → Sees held sight → HasDone setting who place work held seat old new sight came
+      → (end : Option End) × Adds (ShipTask setting block stop) seat old new end came × CameBy (works.Upload ulid stop) end came → Sees held sight → HasDone (TaskRun setting who place work held) (IsPart work) seat old new sight came
   upload_done work sight ulid stop block w is ran sees =
       let runs : (made : List Entry) (e : Option End) → ShipTask setting block stop made e → TaskRun setting who place work held made e held =
       λ made e run. subst (λ (x : Work). TaskRun setting who place x held made e held) (sym w) ((block, is, run), refl) in
@@ -83,7 +83,7 @@ module _ (setting : Setting) (who : Who) (place : ℕ) (held : Holding) (seat : 
       (subst (λ (x : Work). CameBy x ran.0 came) (sym w) ran.2)
 
   pub compact_done : (work : Work) (sight : Sight) (stop : Option ℕ) (rules : Rules) → work ≡ works.Compact stop → rules ≡ setting.script.rules
-      → (end : Option End) × Adds (StoppedRun (compaction rules) compacted stop) seat old new end came × CameBy (works.Compact stop) end came → Sees held sight → HasDone setting who place work held seat old new sight came
+      → (end : Option End) × Adds (StoppedRun (compaction rules) compacted stop) seat old new end came × CameBy (works.Compact stop) end came → Sees held sight → HasDone (TaskRun setting who place work held) (IsPart work) seat old new sight came
   compact_done work sight stop rules w same ran sees =
       let runs : (made : List Entry) (e : Option End) → StoppedRun (compaction rules) compacted stop made e → TaskRun setting who place work held made e held =
       λ made e run. subst (λ (x : Work). TaskRun setting who place x held made e held) (sym w) (subst (λ (r : Rules). StoppedRun (compaction r) compacted stop made e) same run, refl) in
@@ -91,7 +91,7 @@ module _ (setting : Setting) (who : Who) (place : ℕ) (held : Holding) (seat : 
       (subst (λ (x : Work). CameBy x ran.0 came) (sym w) ran.2)
 
   pub clean_done : (work : Work) (sight : Sight) (stop : Option ℕ) (rules : Rules) → work ≡ works.Clean stop → rules ≡ setting.script.rules
-      → (end : Option End) × Adds (StoppedRun (cleaning rules) cleaned stop) seat old new end came × CameBy (works.Clean stop) end came → Sees held sight → HasDone setting who place work held seat old new sight came
+      → (end : Option End) × Adds (StoppedRun (cleaning rules) cleaned stop) seat old new end came × CameBy (works.Clean stop) end came → Sees held sight → HasDone (TaskRun setting who place work held) (IsPart work) seat old new sight came
   clean_done work sight stop rules w same ran sees =
       let runs : (made : List Entry) (e : Option End) → StoppedRun (cleaning rules) cleaned stop made e → TaskRun setting who place work held made e held =
       λ made e run. subst (λ (x : Work). TaskRun setting who place x held made e held) (sym w) (subst (λ (r : Rules). StoppedRun (cleaning r) cleaned stop made e) same run, refl) in
@@ -107,7 +107,7 @@ module _ (setting : Setting) (who : Who) (place : ℕ) (held : Holding) (seat : 
 
   pub sync_done : (work : Work) (before : Sight) (view : Option View) (number : ℕ) → work ≡ works.Sync number
       → (end : Option SyncEnd) × Adds (SyncRun (sync_rules setting number)) seat old new end came × CameBy (works.Sync number) (option_map synced end) came × (view ≡ view_by before.view end)
-      → Sees held before → HasDone setting who place work held seat old new (record { view = view; cache = before.cache }) came
+      → Sees held before → HasDone (TaskRun setting who place work held) (IsPart work) seat old new (record { view = view; cache = before.cache }) came
   sync_done work before view number w ran sees =
       let runs : (made : List Entry) (e : Option SyncEnd) → SyncRun (sync_rules setting number) made e → TaskRun setting who place work held made (option_map synced e) (synced_with held made e) =
       λ made e run. subst (λ (x : Work). TaskRun setting who place x held made (option_map synced e) (synced_with held made e)) (sym w) (e, run, refl, refl) in
@@ -132,17 +132,15 @@ a_view (Some used) view is = (used, refl, cc (is))
 pub blind_asked : (held : Holding) (asked : Question) (seat : ℕ) (journal : List Entry) (sight : Sight) → sight.view ≡ None → Sees held sight
     → HasAsked held asked seat journal journal sight (Ok (part.Query given.NoView))
 blind_asked held asked seat journal sight blind sees = record {
+  made = [];
+  entries = sym (append-nil journal);
+  seats = All-nil (λ e. e.seat ≡ seat);
   end = Some without_view;
   after = held;
-  adds = record {
-    made = [];
-    entries = sym (append-nil journal);
-    seats = All-nil (λ e. e.seat ≡ seat);
-    run = subst (λ (v : Option Use). QueryTask v (Some asked) held [] (Some without_view) held) (sym (no_view held.used (sees.view_is ∙ blind))) ((refl, inr refl), refl);
-    due = tt;
-  };
+  run = subst (λ (v : Option Use). QueryTask v (Some asked) held [] (Some without_view) held) (sym (no_view held.used (sees.view_is ∙ blind))) ((refl, inr refl), refl);
   sees = sees;
   by = refl;
+  due = tt;
 }
 
 call_run : (used : Use) (held : Holding) (view : View) (asked : Question) (cache : Cache) (made : List Entry) (own : Option CallEnd) → held.used ≡ Some used → used.view ≡ view → held.cache ≡ cache → SeriesRun view asked cache made own
@@ -167,21 +165,19 @@ call_asked held asked seat old new came before after view cache is same kept ran
     let r = ran seen.0 seen.2 in
     let a = r.1 in
     let end : Option CallEnd → Option End = option_map (λ (call : CallEnd). answered seen.0 call.end) in
-    let runs : (made : List Entry) (e : Option CallEnd) → SeriesRun view asked cache made e → Answers asked held made (end e, called_with held e) =
+    let runs : (made : List Entry) (e : Option CallEnd) → SeriesRun view asked cache made e → QueryTask held.used (Some asked) held made (end e) (called_with held e) =
     λ made e run. call_run seen.0 held view asked cache made e seen.1 seen.2 (sees.cache_is ∙ sym kept) run in
     record {
+      made = a.made;
+      entries = a.entries;
+      seats = a.seats;
       end = end r.0;
       after = called_with held r.0;
-      adds = record {
-        made = a.made;
-        entries = a.entries;
-        seats = a.seats;
-        run = runs a.made r.0 a.run;
-        due = when_full came (IsDueAfter (SeriesRun view asked cache) seat a.made) (IsDueAfter (Answers asked held) seat a.made)
-            (due_by (SeriesRun view asked cache) (Answers asked held) seat a.made (λ es e one. ((end e, called_with held e), runs es e one))) a.due;
-      };
+      run = runs a.made r.0 a.run;
       sees = sight_left held before after seen.0 r.0 came r.2 r.3 sees same;
       by = r.2;
+      due = when_full came (IsDueAfter (SeriesRun view asked cache) seat a.made) (IsDueAfter (Does (QueryTask held.used (Some asked) held)) seat a.made)
+          (due_by (SeriesRun view asked cache) (Does (QueryTask held.used (Some asked) held)) seat a.made (λ es e one. (end e, (called_with held e, runs es e one)))) a.due;
     }
 
 -- for want of memory nothing was asked
@@ -191,24 +187,22 @@ none_query (Some used) asked held = (None, breaks_off (series_call used.view ask
 
 pub short_asked : (held : Holding) (asked : Question) (seat : ℕ) (journal : List Entry) (sight : Sight) → HasAsked held asked seat journal journal sight (Err broken.NoMemory)
 short_asked held asked seat journal sight = record {
+  made = [];
+  entries = sym (append-nil journal);
+  seats = All-nil (λ e. e.seat ≡ seat);
   end = None;
   after = held;
-  adds = record {
-    made = [];
-    entries = sym (append-nil journal);
-    seats = All-nil (λ e. e.seat ≡ seat);
-    run = none_query held.used asked held;
-    due = tt;
-  };
+  run = none_query held.used asked held;
   sees = tt;
   by = tt;
+  due = tt;
 }
 
 -- ---- a worker's part of a query
 
 -- its gateway is not asked
 pub unasked_done : (setting : Setting) (who : Who) (place : ℕ) (held : Holding) (seat : ℕ) (journal : List Entry) (sight : Sight) (low high : ℤ) (selector : ℕ) (gateway : Option ℕ) → who.gateway ≡ gateway
-    → ask_to setting gateway low high ≡ None → Sees held sight → HasDone setting who place (works.Query low high selector) held seat journal journal sight (Ok (part.Query given.NotAsked))
+    → ask_to setting gateway low high ≡ None → Sees held sight → HasDone (TaskRun setting who place (works.Query low high selector) held) (IsPart (works.Query low high selector)) seat journal journal sight (Ok (part.Query given.NotAsked))
 unasked_done setting who place held seat journal sight low high selector gateway by none sees =
     let own : ask_to setting who.gateway low high ≡ None = ap (λ (g : Option ℕ). ask_to setting g low high) by ∙ none in
     record {
@@ -231,15 +225,25 @@ question_is setting selector ask matchers at = ap (λ o. option_map (λ (m : Lis
 pub asked_done : (setting : Setting) (who : Who) (place : ℕ) (held : Holding) (seat : ℕ) (old new : List Entry) (came : Result Part Broken) (sight : Sight) (low high : ℤ) (selector : ℕ) (gateway : Option ℕ) (ask : Ask) (matchers : List Matcher)
     → who.gateway ≡ gateway → ask_to setting gateway low high ≡ Some ask → slice_get setting.script.selectors selector ≡ Some matchers
     → HasAsked held (asking matchers setting.script.rules.replicas ask.low ask.high) seat old new sight came
-    → HasDone setting who place (works.Query low high selector) held seat old new sight came
+    → HasDone (TaskRun setting who place (works.Query low high selector) held) (IsPart (works.Query low high selector)) seat old new sight came
 asked_done setting who place held seat old new came sight low high selector gateway ask matchers by some at h =
     let question : Question = asking matchers setting.script.rules.replicas ask.low ask.high in
     let own : ask_to setting who.gateway low high ≡ Some ask = ap (λ (g : Option ℕ). ask_to setting g low high) by ∙ some in
     let asks = question_is setting selector ask matchers at in
-    let runs : (made : List Entry) (one : Option End × Holding) → Answers question held made one → TaskRun setting who place (works.Query low high selector) held made one.0 one.1 =
-    λ made one run. subst (λ (o : Option Ask). PartTask setting selector o held made one.0 one.1) (sym own) (subst (λ (q : Option Question). QueryTask held.used q held made one.0 one.1) (sym asks) run) in
-    by_run setting who place held seat old new came (works.Query low high selector) (Answers question held) (λ one. one.0) (h.end, h.after) h.after sight h.adds
-    (λ made one run. (one.1, runs made one run)) (runs (h.adds).made (h.end, h.after) (h.adds).run) h.sees h.by
+    let runs : (made : List Entry) (end : Option End) (after : Holding) → QueryTask held.used (Some question) held made end after → TaskRun setting who place (works.Query low high selector) held made end after =
+    λ made end after run. subst (λ (o : Option Ask). PartTask setting selector o held made end after) (sym own) (subst (λ (q : Option Question). QueryTask held.used q held made end after) (sym asks) run) in
+    record {
+      made = h.made;
+      entries = h.entries;
+      seats = h.seats;
+      end = h.end;
+      after = h.after;
+      run = runs h.made h.end h.after h.run;
+      sees = h.sees;
+      by = h.by;
+      due = when_full came (IsDueAfter (Does (QueryTask held.used (Some question) held)) seat h.made) (IsDueAfter (Does (TaskRun setting who place (works.Query low high selector) held)) seat h.made)
+          (due_by (Does (QueryTask held.used (Some question) held)) (Does (TaskRun setting who place (works.Query low high selector) held)) seat h.made (λ es e one. (e, (one.0, runs es e one.0 one.1)))) h.due;
+    }
 
 none_part : (setting : Setting) (selector : ℕ) (ask : Option Ask) (held : Holding) (matchers : List Matcher) → slice_get setting.script.selectors selector ≡ Some matchers → PartTask setting selector ask held [] None held
 none_part setting selector None held matchers at = ((refl, inl refl), refl)
@@ -249,7 +253,7 @@ none_part setting selector (Some ask) held matchers at =
 
 -- for want of memory nothing was done
 pub short_done : (setting : Setting) (who : Who) (place : ℕ) (held : Holding) (seat : ℕ) (journal : List Entry) (sight : Sight) (low high : ℤ) (selector : ℕ) (matchers : List Matcher) → slice_get setting.script.selectors selector ≡ Some matchers
-    → HasDone setting who place (works.Query low high selector) held seat journal journal sight (Err broken.NoMemory)
+    → HasDone (TaskRun setting who place (works.Query low high selector) held) (IsPart (works.Query low high selector)) seat journal journal sight (Err broken.NoMemory)
 short_done setting who place held seat journal sight low high selector matchers at = record {
   made = [];
   entries = sym (append-nil journal);

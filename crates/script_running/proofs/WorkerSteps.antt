@@ -144,7 +144,7 @@ module _ (setting : Setting) (tasks : List Task) (who : Who) (places : List ℕ)
   more_by o (Some end) made after is seats run sees by = more_from o end made after is seats run sees by
   more_by o None made after is seats run sees by = absurd by
 
-  pub more_worked : (o : Part) → HasDone setting who place task.work w.next seat mid new sight (Ok o) → Worked setting tasks who (places ++ place ∷ []) before seat old new sight (parts ++ o ∷ [])
+  pub more_worked : (o : Part) → HasDone (TaskRun setting who place task.work w.next) (IsPart task.work) seat mid new sight (Ok o) → Worked setting tasks who (places ++ place ∷ []) before seat old new sight (parts ++ o ∷ [])
   more_worked o d = more_by o d.end d.made d.after d.entries d.seats d.run d.sees d.by
 
   -- ---- the task that was broken off
@@ -166,7 +166,7 @@ module _ (setting : Setting) (tasks : List Task) (who : Who) (places : List ℕ)
   none_by work (Some end) broken.Full by = absurd by
   none_by work (Some end) broken.NoMemory by = absurd by
 
-  cut_off : (more : List Assigned) (why : Broken) → All (λ (a : Assigned). MayBegin setting a.task.work) more → (d : HasDone setting who place task.work w.next seat mid new sight (Err why))
+  cut_off : (more : List Assigned) (why : Broken) → All (λ (a : Assigned). MayBegin setting a.task.work) more → (d : HasDone (TaskRun setting who place task.work w.next) (IsPart task.work) seat mid new sight (Err why))
       → IsBrokenOff (OwnRun setting who before (w.own ++ this ∷ more)) (length (w.own ++ this ∷ more)) seat (w.made ++ d.made) (w.ends ++ []) (Err why)
   cut_off more broken.NoMemory begin d = tt
   cut_off more broken.Full begin d = (
@@ -183,7 +183,7 @@ module _ (setting : Setting) (tasks : List Task) (who : Who) (places : List ℕ)
   )
 
   pub broken_worked : (all : List ℕ) (others : List ℕ) (more : List Assigned) (why : Broken) (end : WorkerEnd) → all ≡ places ++ place ∷ others → TasksAt tasks others more → All (λ (a : Assigned). MayBegin setting a.task.work) more
-      → end.parts.items ≡ parts → end.came ≡ Err why → HasDone setting who place task.work w.next seat mid new sight (Err why) → HasWorked setting tasks who all before seat old new end
+      → end.parts.items ≡ parts → end.came ≡ Err why → HasDone (TaskRun setting who place task.work w.next) (IsPart task.work) seat mid new sight (Err why) → HasWorked (TasksAt tasks all) (OwnRun setting who before) seat old new end
   broken_worked all others more why end split are begin told came d = record {
     made = w.made ++ d.made;
     entries = both_entries d.made d.entries;
@@ -200,7 +200,7 @@ module _ (setting : Setting) (tasks : List Task) (who : Who) (places : List ℕ)
 
 -- all tasks were done
 pub all_worked : (setting : Setting) (tasks : List Task) (who : Who) (places all : List ℕ) (before : Holding) (seat : ℕ) (old new : List Entry) (sight : Sight) (parts : List Part) (end : WorkerEnd) → places ≡ all
-    → end.parts.items ≡ parts → end.came ≡ Ok tt → end.sight ≡ sight → Worked setting tasks who places before seat old new sight parts → HasWorked setting tasks who all before seat old new end
+    → end.parts.items ≡ parts → end.came ≡ Ok tt → end.sight ≡ sight → Worked setting tasks who places before seat old new sight parts → HasWorked (TasksAt tasks all) (OwnRun setting who before) seat old new end
 all_worked setting tasks who places all before seat old new sight parts end is told came same w = record {
   made = w.made;
   entries = w.entries;
@@ -233,7 +233,7 @@ none_run setting who before (a ∷ own) begin = λ all. inr (begin 0 a (omega ar
 -- for want of memory
 pub none_done : (setting : Setting) (tasks : List Task) (who : Who) (places : List ℕ) (before : Holding) (seat : ℕ) (journal : List Entry) (end : WorkerEnd) → IsLawfulScript setting.script
     → All (λ t. IsLawfulWork setting.script.gateways setting.script.blocks (length setting.script.selectors) t.work) tasks → All (λ place. place < length tasks) places
-    → end.parts.items ≡ [] → end.came ≡ Err broken.NoMemory → HasWorked setting tasks who places before seat journal journal end
+    → end.parts.items ≡ [] → end.came ≡ Err broken.NoMemory → HasWorked (TasksAt tasks places) (OwnRun setting who before) seat journal journal end
 none_done setting tasks who places before seat journal end lawful allowed within told came =
     let own = assigned tasks places within in
     let begin = tasks_begin setting tasks (may_begin setting tasks lawful allowed) places own.0 own.1 in
@@ -273,19 +273,19 @@ module _ (setting : Setting) (tasks : List Task) (who : Who) (places : List ℕ)
   found : slice_get tasks place ≡ Some task
   found = at_place tasks place task (place_within tasks places number place below is within) at
 
-  pub step_worked : (outs : List Part) (o : Part) (came : Result Part Broken) → came ≡ Ok o → outs ≡ parts ++ o ∷ [] → ((held : Holding) → Sees held shown → HasDone setting who place task.work held own_seat mid new sight came)
+  pub step_worked : (outs : List Part) (o : Part) (came : Result Part Broken) → came ≡ Ok o → outs ≡ parts ++ o ∷ [] → ((held : Holding) → Sees held shown → HasDone (TaskRun setting who place task.work held) (IsPart task.work) own_seat mid new sight came)
       → Worked setting tasks who (take (number + 1) places) before seat old new sight outs
   step_worked outs o came ok told done =
-      let d = subst (λ (s : ℕ). HasDone setting who place task.work w.next s mid new sight (Ok o)) same (subst (λ (x : Result Part Broken). HasDone setting who place task.work w.next own_seat mid new sight x) ok (done w.next w.sees)) in
+      let d = subst (λ (s : ℕ). HasDone (TaskRun setting who place task.work w.next) (IsPart task.work) s mid new sight (Ok o)) same (subst (λ (x : Result Part Broken). HasDone (TaskRun setting who place task.work w.next) (IsPart task.work) own_seat mid new sight x) ok (done w.next w.sees)) in
       subst (λ (os : List Part). Worked setting tasks who (take (number + 1) places) before seat old new sight os) (sym told)
       (subst (λ (ps : List ℕ). Worked setting tasks who ps before seat old new sight (parts ++ o ∷ [])) (sym (front_more places number place below is))
       (more_worked setting tasks who (take number places) before seat old mid new shown sight parts place task found w o d))
 
   pub step_broken : (why : Broken) (came : Result Part Broken) (end : WorkerEnd) → IsLawfulScript setting.script → All (λ t. IsLawfulWork setting.script.gateways setting.script.blocks (length setting.script.selectors) t.work) tasks
-      → came ≡ Err why → end.parts.items ≡ parts → end.came ≡ Err why → ((held : Holding) → Sees held shown → HasDone setting who place task.work held own_seat mid new sight came)
-      → HasWorked setting tasks who places before seat old new end
+      → came ≡ Err why → end.parts.items ≡ parts → end.came ≡ Err why → ((held : Holding) → Sees held shown → HasDone (TaskRun setting who place task.work held) (IsPart task.work) own_seat mid new sight came)
+      → HasWorked (TasksAt tasks places) (OwnRun setting who before) seat old new end
   step_broken why came end lawful allowed err told broke done =
-      let d = subst (λ (s : ℕ). HasDone setting who place task.work w.next s mid new sight (Err why)) same (subst (λ (x : Result Part Broken). HasDone setting who place task.work w.next own_seat mid new sight x) err (done w.next w.sees)) in
+      let d = subst (λ (s : ℕ). HasDone (TaskRun setting who place task.work w.next) (IsPart task.work) s mid new sight (Err why)) same (subst (λ (x : Result Part Broken). HasDone (TaskRun setting who place task.work w.next) (IsPart task.work) own_seat mid new sight x) err (done w.next w.sees)) in
       let more = assigned tasks (drop (number + 1) places) (All-drop (λ p. p < length tasks) (number + 1) places within) in
       let begin = tasks_begin setting tasks (may_begin setting tasks lawful allowed) (drop (number + 1) places) more.0 more.1 in
       broken_worked setting tasks who (take number places) before seat old mid new shown sight parts place task found w places (drop (number + 1) places) more.0 why end

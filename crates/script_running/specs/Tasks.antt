@@ -8,10 +8,8 @@ use Rattle.store_ranges.specs.Reads.{Query as Question}
 use Rattle.script_core.specs.Lawful.{IsLawfulWork}
 use Rattle.script_core.specs.declared.script.Script.{Script}
 use Rattle.script_workers.specs.declared.work.Work.{Work}
-use Rattle.lifecycle_core.specs.Conducts.{Who}
 use Rattle.lifecycle_core.specs.Holdings.{Holding}
-use Rattle.lifecycle_core.specs.Setting.{Setting}
-use Rattle.lifecycle_core.specs.Tasks.{End, QueryTask, TaskRun}
+use Rattle.lifecycle_core.specs.Tasks.{End, QueryTask}
 use Rattle.lifecycle_core.specs.Ways.{IsDueAfter}
 use Rattle.script_running.specs.Outcomes.{IsGatewayPart, IsPart, Part}
 use Rattle.script_running.specs.Sights.{Sees}
@@ -75,32 +73,23 @@ view_by before (Some (fetched.Damaged number)) = before
 view_by before (Some fetched.TooMany) = before
 view_by before None = before
 
--- an end of a worker's run of a task, and what the worker holds then
-abbrev pub Does : Setting → Who → ℕ → Work → Holding → List Entry → Option End → Type 0
-Does setting who place work before made end = (after : Holding) × TaskRun setting who place work before made end after
+-- an end of a run, and what its worker holds then
+abbrev pub Does : (List Entry → Option End → Holding → Type 0) → List Entry → Option End → Type 0
+Does is_run made end = (after : Holding) × is_run made end after
 
--- A worker that held this did a task: what its hand's list gained is a run of the task, with the end by which it came out. It
--- holds what the run leaves, and where the run came to its end, it sees by this.
-pub record HasDone (setting : Setting) (who : Who) (place : ℕ) (work : Work) (before : Holding) (seat : ℕ) (old new : List Entry) (sight : Sight) (came : Result Part Broken) : Type 0 where
+-- A worker did what may be done so: what its hand's list gained is such a run, with the end by which its part came out. It holds what
+-- the run leaves, and where the run came to its end, it sees by this.
+pub record HasDone (is_run : List Entry → Option End → Holding → Type 0) (is_part : End → Part → Type 0) (seat : ℕ) (old new : List Entry) (sight : Sight) (came : Result Part Broken) : Type 0 where
   pub made : List Entry
   pub entries : new ≡ old ++ made
   pub seats : All (λ e. e.seat ≡ seat) made
   pub end : Option End
   pub after : Holding
-  pub run : TaskRun setting who place work before made end after
+  pub run : is_run made end after
   pub sees : WhenDone came (Sees after sight)
-  pub by : CameBy work end came
-  pub due : WhenFull came (IsDueAfter (Does setting who place work before) seat made)
+  pub by : CameAs is_part end came
+  pub due : WhenFull came (IsDueAfter (Does is_run) seat made)
 
--- An end of a gateway's answer to a question by what it holds, and what it holds then.
-abbrev pub Answers : Question → Holding → List Entry → Option End × Holding → Type 0
-Answers asked before made one = QueryTask before.used (Some asked) before made one.0 one.1
-
--- A gateway that held this was asked a question: with the view of what it holds, if it has one. What its hand's list gained is a run of
--- its answer, with the end by which it came out. Where that came to its end, it sees by this.
-pub record HasAsked (before : Holding) (asked : Question) (seat : ℕ) (old new : List Entry) (sight : Sight) (came : Result Part Broken) : Type 0 where
-  pub end : Option End
-  pub after : Holding
-  pub adds : Adds (Answers asked before) seat old new (end, after) came
-  pub sees : WhenDone came (Sees after sight)
-  pub by : CameAs IsGatewayPart end came
+-- A gateway that held this was asked a question: with the view of what it holds, if it has one.
+abbrev pub HasAsked : Holding → Question → ℕ → List Entry → List Entry → Sight → Result Part Broken → Type 0
+HasAsked before asked = HasDone (QueryTask before.used (Some asked) before) IsGatewayPart

@@ -56,25 +56,24 @@ IsBrokenOff is_run count seat made ends (Err broken.Full) =
     (length ends < count) × IsDueAfter (λ entries (run : List End × Holding). is_run entries run.0 run.1) seat made
 IsBrokenOff is_run count seat made ends (Err broken.NoMemory) = Unit {0}
 
--- A worker that held this did its tasks, those at these places of the phase, one after another, with these entries of its seat.
--- Its parts are those of the tasks that came to their ends, and if they all did, it sees by what it holds last.
-pub record HasWorked (setting : Setting) (tasks : List Task) (who : Who) (places : List ℕ) (before : Holding) (seat : ℕ)
-    (old new : List Entry) (end : WorkerEnd) : Type 0 where
+-- A worker did tasks, one after another, with entries of its seat: the tasks that stand at its places, by runs from what it held. Its
+-- parts are those of the tasks that came to their ends, and if they all did, it sees by what it holds last.
+pub record HasWorked (at : List Assigned → Type 0) (runs : List Assigned → List Entry → List End → Holding → Type 0) (seat : ℕ) (old new : List Entry) (end : WorkerEnd) : Type 0 where
   pub made : List Entry
   pub entries : new ≡ old ++ made
   pub seats : All (λ e. e.seat ≡ seat) made
   pub own : List Assigned
-  pub are : TasksAt tasks places own
+  pub are : at own
   pub ends : List End
   pub last : Holding
-  pub run : OwnRun setting who before own made ends last
+  pub run : runs own made ends last
   pub parts : AreParts own ends end.parts.items
   pub sees : WhenDone end.came (Sees last end.sight)
-  pub broken : IsBrokenOff (OwnRun setting who before own) (length own) seat made ends end.came
+  pub broken : IsBrokenOff (runs own) (length own) seat made ends end.came
 
 -- What the job of a worker may do, by the script of which it is lent. Where the full journal broke it off, it has seen that the
 -- journal is full.
 pub record MayWork (post : Post) (seat : ℕ) (made : List Entry) (front : Option (List Entry)) (end : WorkerEnd) : Type 0 where
   pub worked : (phase : Phase) (held : Holding) → slice_get post.loan.script.phases post.phase ≡ Some phase → Sees held post.sight
-      → HasWorked (setting_in post.loan) phase.tasks (who_of post.worker) post.worker.tasks held seat [] made end
+      → HasWorked (TasksAt phase.tasks post.worker.tasks) (OwnRun (setting_in post.loan) (who_of post.worker) held) seat [] made end
   pub full : end.came ≡ Err broken.Full → IfSome front IsFull

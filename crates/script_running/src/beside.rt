@@ -57,7 +57,7 @@ struct Running<'a, B: Bucket, G, R> {
 }
 
 /// Runs a script over a world: each phase's workers beside each other, and the phases one after another. No phase is begun after one that
-/// broke off. For want of memory nothing may be begun.
+/// broke off. For want of memory nothing may be begun. The gate is told how far the run is.
 ///
 /// The tasks of a phase are added to the report when all its workers came to their ends, before the next phase is begun.
 pub fn run_beside<B: Bucket + Send, G: Gate + Sync, P: Report + Drop, R: Threads + Wait + Sync>(
@@ -122,6 +122,7 @@ pub fn run_beside<B: Bucket + Send, G: Gate + Sync, P: Report + Drop, R: Threads
                 root,
                 &mut progress,
             );
+            gate.ends();
             let closed = shared.close(root);
             // what every world keeps, as this one does
             let kept = closed.world();
@@ -159,6 +160,7 @@ fn run_phases<B: Bucket + Send, G: Gate + Sync, P: Report, R: Threads + Wait + S
 {
     let mut root = root;
     for (place, phase) in run.script.phases.members().iter().enumerate() {
+        run.gate.begins(place, run.script.phases.len());
         let (came, next) = phase_beside(run, root, place, phase, progress);
         root = next;
         if let Err(broken) = came {
@@ -208,6 +210,7 @@ fn phase_beside<B: Bucket + Send, G: Gate + Sync, P: Report, R: Threads + Wait +
     if let Err(broken) = begun {
         return (Err(broken), root);
     }
+    run.gate.moved(0);
     let end = run_phase(run.rt, alloc, run.shared, root, jobs, run.gate);
     if end.memory {
         return (Err(Broken::NoMemory), end.root);

@@ -7,10 +7,10 @@ ghost use Rattle.store_calls.specs.SeriesCalls.{asking};
 ghost use Rattle.matchers.specs.declared.matcher.Matcher.{Matcher};
 ghost use Rattle.lifecycle_core.specs.Conducts.{Who};
 ghost use Rattle.lifecycle_core.specs.Holdings.{Holding};
-ghost use Rattle.lifecycle_core.specs.Tasks.{ask_to};
+ghost use Rattle.lifecycle_core.specs.Tasks.{TaskRun, ask_to};
 ghost use Rattle.script_running.specs.Lending.{setting_in};
 ghost use Rattle.script_running.specs.Drives.{cache_by, call_came};
-ghost use Rattle.script_running.specs.Outcomes.{call_part};
+ghost use Rattle.script_running.specs.Outcomes.{IsPart, call_part};
 ghost use Rattle.script_running.specs.Sights.{Sees};
 ghost use Rattle.script_running.specs.Tasks.{Allows, HasAsked, HasDone, is_full_came, is_short_came};
 
@@ -41,8 +41,9 @@ pub fn run_task<H: Hand>(
     // the worker held. If it came to its end, the worker sees by what it holds then.
     ensures done { (who : Who) (place : ℕ) (held : Holding) → who.gateway ≡ gateway
         → Sees held sight.old
-        → HasDone (setting_in means.now) who place work.now held (H.told hand.old).seat
-        (H.told hand.old).entries (H.told hand.new).entries sight.new result }
+        → HasDone (TaskRun (setting_in means.now) who place work.now held) (IsPart work.now)
+        (H.told hand.old).seat (H.told hand.old).entries (H.told hand.new).entries
+        sight.new result }
 
     // The task is broken off as full exactly where an operation was answered so, and then the journal is full. Memory was
     // wanted in an operation only where the task is broken off for that.

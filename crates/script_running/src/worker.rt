@@ -4,12 +4,12 @@ ghost use Rattle.std.specs.Prelude.{◌≡◌, ◌<◌, [], Err, length};
 ghost use Rattle.std.specs.List.{All};
 ghost use Rattle.world_core.specs.Turning.{Turned};
 ghost use Rattle.script_core.specs.Lawful.{IsLawfulScript};
-ghost use Rattle.lifecycle_core.specs.Conducts.{Who};
+ghost use Rattle.lifecycle_core.specs.Conducts.{TasksAt, Who};
 ghost use Rattle.lifecycle_core.specs.Holdings.{Holding};
 ghost use Rattle.script_running.specs.Lending.{setting_in};
 ghost use Rattle.script_running.specs.Sights.{Sees};
 ghost use Rattle.script_running.specs.Tasks.{Allows, is_full_came, is_short_came};
-ghost use Rattle.script_running.specs.Workers.{IsAtWork, HasWorked};
+ghost use Rattle.script_running.specs.Workers.{IsAtWork, HasWorked, OwnRun};
 
 use crate::{Broken, Means, Part, Sight, run_task};
 use phase_runner::Job;
@@ -141,7 +141,7 @@ fn do_tasks<H: Hand>(
     requires tasks { All (λ task. Allows means.now.script task.work) tasks.now }
     requires places { All (λ place. place < length tasks.now) places.now }
     ensures worked { (who : Who) (held : Holding) → who.gateway ≡ gateway → Sees held sight
-        → HasWorked (setting_in means.now) tasks.now who places.now held
+        → HasWorked (TasksAt tasks.now places.now) (OwnRun (setting_in means.now) who held)
         (H.told hand.old).seat (H.told hand.old).entries (H.told hand.new).entries result }
     ensures hand { Turned H.told H.keeps hand.old hand.new (is_full_came result.came)
         (is_short_came result.came) }

@@ -1,17 +1,15 @@
 -- In an index of a list of series, the lists of the rows of one name share no number.
-use Rattle.std.proofs.Common.{◌≡◌, ℕ, suc, ◌≤◌, Bool, true, false, List, [], ◌∷◌, ◌++◌, length, map, Some, Ok, refl, sym, ap, subst, ◌∙◌, arith, inl, inr}
+use Rattle.std.proofs.Common.{◌≡◌, ℕ, suc, ◌≤◌, Bool, true, false, List, [], ◌∷◌, length, map, Some, Ok, refl, sym, ap, subst, ◌∙◌, arith}
 use Rattle.std.specs.Prelude.{is_some, if◌then◌else◌}
 use Rattle.std.specs.List.{Contains, filter}
 use Rattle.std.specs.List.Sorted.{IsStrictlyIncreasing, IsStrictlySortedBy}
 use Rattle.std.specs.declared.cmp.Ordering.TheVariants.{Less, Equal}
 use Rattle.std.proofs.lemmas.Cmp.{tied_itself}
 use Rattle.std.proofs.lemmas.Map.Keys.{sorted_tail}
-use Rattle.std.proofs.lemmas.List.{length-append, length-map}
+use Rattle.std.proofs.lemmas.List.{length-map}
 use Rattle.std.proofs.lemmas.List.Kept.{IsStrictlySortedBy-filter}
-use Rattle.std.proofs.lemmas.List.Elements.{Contains-append_left, Contains-append_right, Contains-append_cases}
 use Rattle.base.proofs.Order.{Less-at_places}
-use Rattle.base.proofs.Membership.{contains_first, contains_later, member_cases, no_member, into_map, place_of_member, of_filter, member_passes}
-use Rattle.base.proofs.Rising.{rest_rises}
+use Rattle.base.proofs.Membership.{contains_first, contains_later, into_map, place_of_member, of_filter, member_passes}
 use Rattle.base.specs.Reading.{refused_as}
 use Rattle.base.proofs.Binds.{ok_is}
 use Rattle.label_sets.specs.declared.label.Label.{Label}
@@ -30,65 +28,15 @@ use Rattle.index_v2.specs.declared.refusal.IndexRefusal.{IndexRefusal}
 use Rattle.index_v2.specs.Opening.{refused_in}
 use Rattle.index_v2.specs.PostingsLists.{list_of}
 use Rattle.index_parts.proofs.RowPlaces.{rows_total}
+use Rattle.index_v2.proofs.Apart.{AreApart, fewer, apart_append, rising_apart}
 use Rattle.index_v2.proofs.RowsHeld.{held_ascends}
 use Rattle.index_v2.proofs.ListNumbers.{numbers_rise}
 use Rattle.series_selection.specs.Selections.{HasNumber, decides, deciding}
 use Rattle.series_selection.specs.SelectionSteps.{numbers_at}
 use Rattle.series_selection.proofs.NumbersRead.{first_read, numbers_none, of_numbers}
 use Rattle.series_selection.proofs.Walk.{ok_same}
-use Rattle.series_selection.proofs.Matching.{Stands, first_of, above_first, row_has, row_value}
+use Rattle.series_selection.proofs.Matching.{Stands, first_of, row_has, row_value}
 use Rattle.series_selection.proofs.Taking.{decides_name}
-
--- ---- numbers of which none stands twice
-
-AreApart : List ℕ → Type 0
-AreApart [] = Unit {0}
-AreApart (x ∷ xs) = (Contains xs x → ⊥) × AreApart xs
-
-record Split (ys : List ℕ) (x : ℕ) : Type 0 where
-  pub front : List ℕ
-  pub back : List ℕ
-  pub is : ys ≡ front ++ x ∷ back
-
-split : (ys : List ℕ) (x : ℕ) → Contains ys x → Split ys x
-split [] x has = absurd (no_member x has)
-split (y ∷ ys) x has = elim (member_cases y x ys has) [
-  | inl same ↦ record { front = []; back = ys; is = ap (λ (z : ℕ). z ∷ ys) same }
-  | inr later ↦ let s = split ys x later in record { front = y ∷ s.front; back = s.back; is = ap (λ (zs : List ℕ). y ∷ zs) s.is }
-]
-
--- they are no more than the numbers among which they are
-fewer : (xs ys : List ℕ) → AreApart xs → ((n : ℕ) → Contains xs n → Contains ys n) → length xs ≤ length ys
-unfolding AreApart
-fewer [] ys apart among = omega arith
-fewer (x ∷ xs) ys apart among =
-    let s = split ys x (among x (contains_first x xs)) in
-    let others : (n : ℕ) → Contains xs n → Contains (s.front ++ s.back) n = λ n has.
-    elim (Contains-append_cases s.front (x ∷ s.back) n (subst (λ (zs : List ℕ). Contains zs n) s.is (among n (contains_later x n xs has)))) [
-      | inl before ↦ Contains-append_left s.front s.back n before
-      | inr rest ↦ elim (member_cases x n s.back rest) [
-        | inl same ↦ absurd (apart.0 (subst (Contains xs) (sym same) has))
-        | inr behind ↦ Contains-append_right s.front s.back n behind
-      ]
-    ] in
-    let less = fewer xs (s.front ++ s.back) apart.1 others in
-    omega (arith, less, ap length s.is, length-append s.front (x ∷ s.back), length-append s.front s.back)
-
-apart_append : (xs ys : List ℕ) → AreApart xs → AreApart ys → ((n : ℕ) → Contains xs n → Contains ys n → ⊥) → AreApart (xs ++ ys)
-unfolding AreApart
-apart_append [] ys one other none = other
-apart_append (x ∷ xs) ys one other none = (
-  λ has. elim (Contains-append_cases xs ys x has) [
-    | inl here ↦ one.0 here
-    | inr there ↦ none x (contains_first x xs) there
-  ],
-  apart_append xs ys one.1 other (λ n a b. none n (contains_later x n xs a) b),
-)
-
-rising_apart : (xs : List ℕ) → IsStrictlyIncreasing xs → AreApart xs
-unfolding AreApart
-rising_apart [] rise = tt
-rising_apart (x ∷ xs) rise = (λ has. let less = above_first x xs x rise has in omega (arith, less), rising_apart xs (rest_rises x xs rise))
 
 -- ---- rows
 

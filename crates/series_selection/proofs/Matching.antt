@@ -25,6 +25,7 @@ use Rattle.index_parts.proofs.ListLaws.{list_again}
 use Rattle.index_parts.proofs.PostingsLaws.{posting_turn}
 use Rattle.index_parts.specs.declared.index_series.IndexSeries.{IndexSeries}
 use Rattle.index_parts.specs.IndexFile.{IsIndex, AreListed, BelongsTo}
+use Rattle.index_v2.proofs.Apart.{above_first}
 use Rattle.index_v2.proofs.ListNumbers.{listed_rises}
 use Rattle.series_selection.specs.Selections.{HasNumber, IsListed, StandsUnder, TakesByRows, TakesBy, IsSelection, AreMatching}
 use Rattle.series_selection.proofs.Taking.{taken_apart, apart_taken, taken_among, among_taken}
@@ -53,15 +54,6 @@ no_empty_name (l ∷ ls) is = value_miss l ls [] is.0 ∙ no_empty_name ls is.3
 
 abbrev pub first_of : ℕ × IndexSeries → ℕ
 first_of one = one.0
-
-pub above_first : (n : ℕ) (numbers : List ℕ) (m : ℕ) → IsStrictlyIncreasing (n ∷ numbers) → Contains numbers m → n < m
-above_first n [] m rise among = absurd (no_member m among)
-above_first n (x ∷ numbers) m rise among =
-    let next : n < x = rise 0 (omega arith) in
-    elim (member_cases x m numbers among) [
-      | inl same ↦ subst (λ (k : ℕ). n < k) same next
-      | inr later ↦ let far = above_first x numbers m (rest_rises n (x ∷ numbers) rise) later in omega arith
-    ]
 
 one_series : (listed : List (ℕ × IndexSeries)) (number : ℕ) (one other : IndexSeries) → IsStrictlyIncreasing (map first_of listed) → Contains listed (number, one) → Contains listed (number, other) → one ≡ other
 one_series [] number one other rise a b = absurd (no_member (number, one) a)

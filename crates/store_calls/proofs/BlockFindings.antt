@@ -153,4 +153,4 @@ module _ (Known : Key → Piece → List ℕ → Type 0) (Whole : Key → List �
         → IsErr (each_at (numbered_at bytes opened.symbols) numbers) → IsSpoilt query block
     no_key : (series : List IndexSeries) → AreSeries query block series → have_keys (flat_map (taken query) series) ≡ false → IsSpoilt query block
     no_chunk : (series : List IndexSeries) (stretch : Stretch ℕ) → AreSeries query block series
-        → LacksChunks block.ulid (tests_at block (flat_map (taken query) series)) (IsSoughtOf query series) stretch → IsSpoilt query block
+        → LacksChunks block.ulid (tests_at query block (flat_map (taken query) series)) (IsSoughtOf query series) stretch → IsSpoilt query block

@@ -360,21 +360,21 @@ module _ {E : Type 0} (breaks : Break → Cache → E) (Holds : List Entry → P
       → ((made : List Entry) (number : ℕ) (cache : Cache) → IsSpoilt Known Whole query block → Fine cache → Holds made (ends (breaks (damaged number) cache)))
       → (next : Cache → List Triple → Plan E)
       → ((made : List Entry) (after : Cache) (series : List IndexSeries) (all : List Read) → AreSeries Known Whole query block series
-      → AreChunksRead Known Whole block.ulid (tests_at block (flat_map (taken query) series)) all
+      → AreChunksRead Known Whole block.ulid (tests_at query block (flat_map (taken query) series)) all
       → IsSetOf (map reference_of (flat_map (taken query) series)) (map (λ (one : Read). one.reference) all)
       → Fine after → Holds made (next after (flat_map (shown query block all) series)))
       → (made : List Entry) (cache : Cache) → Fine cache → Holds made (reads_block breaks query block cache next)
   walk_holds query block whole index segments spoilt next on made cache fine =
       by_size_holds query block whole index spoilt block.index_size
-      (λ at series. reads_chunks breaks block (flat_map (taken query) series) at.cache at.last (λ all. next at.cache (flat_map (shown query block all) series)))
+      (λ at series. reads_chunks breaks query block (flat_map (taken query) series) at.cache at.last (λ all. next at.cache (flat_map (shown query block all) series)))
       (λ made at series are fine. chunks made at series are fine) refl made cache fine
     where
       chunks : (made : List Entry) (at : Reached) (series : List IndexSeries) → AreSeries Known Whole query block series → Fine at.cache
-          → Holds made (reads_chunks breaks block (flat_map (taken query) series) at.cache at.last (λ all. next at.cache (flat_map (shown query block all) series)))
+          → Holds made (reads_chunks breaks query block (flat_map (taken query) series) at.cache at.last (λ all. next at.cache (flat_map (shown query block all) series)))
       chunks made at series are fine =
           either made (have_keys (flat_map (taken query) series)) _ (ends (breaks (damaged at.last) at.cache))
           (λ keys. found _ made (IsSetOf (map reference_of (flat_map (taken query) series))) (one_set (map reference_of (flat_map (taken query) series))) _
-          (λ references is. references_hold block.ulid (tests_at block (flat_map (taken query) series)) at.cache fine (IsSoughtOf query series)
+          (λ references is. references_hold block.ulid (tests_at query block (flat_map (taken query) series)) at.cache fine (IsSoughtOf query series)
           (λ reference from len sought. segments series are reference sought from len)
           (λ made number stretch lacks. spoilt made number at.cache (no_chunk series stretch are lacks) fine)
           (λ all. next at.cache (flat_map (shown query block all) series)) references is.increasing
@@ -418,7 +418,7 @@ module _ {E : Type 0} (breaks : Break → Cache → E) (Holds : List Entry → P
       → ((made : List Entry) (number : ℕ) (cache : Cache) → IsSpoilt Known Whole query block → Fine cache → Holds made (ends (breaks (damaged number) cache)))
       → (next : Cache → List Triple → Plan E)
       → ((made : List Entry) (after : Cache) (series : List IndexSeries) (all : List Read) → AreSeries Known Whole query block series
-      → AreChunksRead Known Whole block.ulid (tests_at block (flat_map (taken query) series)) all
+      → AreChunksRead Known Whole block.ulid (tests_at query block (flat_map (taken query) series)) all
       → IsSetOf (map reference_of (flat_map (taken query) series)) (map (λ (one : Read). one.reference) all)
       → Fine after → Holds made (next after (flat_map (shown query block all) series)))
       → (made : List Entry) (cache : Cache) → Fine cache → Holds made (reads_block breaks query block cache next)

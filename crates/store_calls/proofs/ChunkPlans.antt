@@ -149,7 +149,7 @@ module _ (asked : Asked) where
   -- the read of a group shows its chunks
   abbrev pub Shown : ChunkWork → List ℕ → List ChunkRow → List Pending → Type 0
   Shown one bytes found pending =
-      (seen : List Glimpse) × (each_at (glimpse_at (tests_at B one.places.items) (group_read one.group) bytes) one.group.references ≡ Ok seen)
+      (seen : List Glimpse) × (each_at (glimpse_at (tests_at Q B one.places.items) (group_read one.group) bytes) one.group.references ≡ Ok seen)
       × ◌≡◌ {A = List Read × List (ℕ × Glimpse)} (reads_of found, map pending_chunk pending) (shown_first (zip one.group.references seen) (reads_of one.found.items))
 
   shown_rise : (one : ChunkWork) (bytes : List ℕ) (found : List ChunkRow) (pending : List Pending) → Shown one bytes found pending
@@ -177,13 +177,13 @@ module _ (asked : Asked) where
       subst (λ (p : List Read × List (ℕ × Glimpse)). Keeps (shows_out asked cache one p.1 p.0) (with_group asked cache one seq bytes)) (sym are.2)
       (keeps_on (shows_out asked cache one (shown_first (zip one.group.references are.0) (reads_of one.found.items)).1 (shown_first (zip one.group.references are.0) (reads_of one.found.items)).0)
       (shows_out asked cache one (zip one.group.references are.0) (reads_of one.found.items)) (with_group asked cache one seq bytes)
-      (out_first breaks_off B.ulid (tests_at B one.places.items) cache (group_read one.group) (later_groups asked one cache) (zip one.group.references are.0) (reads_of one.found.items))
-      (keeps_read (each_at (glimpse_at (tests_at B one.places.items) (group_read one.group) bytes) one.group.references) are.0 _ _ are.1)))
+      (out_first breaks_off B.ulid (tests_at Q B one.places.items) cache (group_read one.group) (later_groups asked one cache) (zip one.group.references are.0) (reads_of one.found.items))
+      (keeps_read (each_at (glimpse_at (tests_at Q B one.places.items) (group_read one.group) bytes) one.group.references) are.0 _ _ are.1)))
       leads
 
   -- it shows none
   pub group_damaged : (cache : Cache) (one : ChunkWork) (seq : ℕ) (bytes : List ℕ)
-      → (IsNonDecreasingBy reference_of one.places.items → IsErr (each_at (glimpse_at (tests_at B one.places.items) (group_read one.group) bytes) one.group.references))
+      → (IsNonDecreasingBy reference_of one.places.items → IsErr (each_at (glimpse_at (tests_at Q B one.places.items) (group_read one.group) bytes) one.group.references))
       → Where (IsGroupWork one) (Leading (with_group asked cache one seq bytes)) [] (Some (outcome.Damaged seq)) cache
   group_damaged cache one seq bytes refused = λ order.
       comes_kept (ends (breaks_off (damaged seq) cache)) (with_group asked cache one seq bytes) (IsEnd cache) (keeps_refused _ _ _ (refused order.ascend)) [] (Some (outcome.Damaged seq)) (breaks cache (damaged seq))
@@ -206,7 +206,7 @@ module _ (asked : Asked) where
         onward = λ entries end left run order.
             comes_kept (shows_out asked cache one ((reference, sticks_out len) ∷ map pending_chunk pending.items) (reads_of found.items)) (shows_out asked cache one (map pending_chunk chunks) (reads_of one.found.items)) (IsEnd left)
             (subst (λ (p : List Read × List (ℕ × Glimpse)). Keeps (shows_out asked cache one p.1 p.0) (shows_out asked cache one (map pending_chunk chunks) (reads_of one.found.items))) is
-            (out_first breaks_off B.ulid (tests_at B one.places.items) cache (group_read one.group) (later_groups asked one cache) (map pending_chunk chunks) (reads_of one.found.items))) entries end
+            (out_first breaks_off B.ulid (tests_at Q B one.places.items) cache (group_read one.group) (later_groups asked one cache) (map pending_chunk chunks) (reads_of one.found.items))) entries end
             (run (record {
               ascend = order.ascend;
               rise = subst (λ (l : List ℕ). IsStrictlyIncreasing (references_in found.items ++ (reference ∷ (l ++ references_left one.later.items)))) (firsts_pending pending.items)
@@ -225,13 +225,13 @@ module _ (asked : Asked) where
       (omega (arith))
       (λ order. record { ascend = order.ascend; rise = still_rise chunks one.found.items found.items [] (references_left one.later.items) is order.rise })
       (λ order. subst (λ (p : List Read × List (ℕ × Glimpse)). Keeps (shows_out asked cache one p.1 p.0) (shows_out asked cache one (map pending_chunk chunks) (reads_of one.found.items))) is
-      (out_first breaks_off B.ulid (tests_at B one.places.items) cache (group_read one.group) (later_groups asked one cache) (map pending_chunk chunks) (reads_of one.found.items)))
+      (out_first breaks_off B.ulid (tests_at Q B one.places.items) cache (group_read one.group) (later_groups asked one cache) (map pending_chunk chunks) (reads_of one.found.items)))
       leads
 
   -- a chunk that stuck out was read
   pub single_read : (cache : Cache) (one : ChunkWork) (found : Vec ChunkRow Global) (reference : ℕ) (pending : List Pending) (seq : ℕ) (bytes : List ℕ) (r : Result Step NoMemory)
       → (IsNonDecreasingBy reference_of one.places.items
-      → (samples : List Sample) × (tests_at B one.places.items reference bytes ≡ Ok samples) × (reads_of found.items ≡ reads_of one.found.items ++ read reference samples ∷ []))
+      → (samples : List Sample) × (tests_at Q B one.places.items reference bytes ≡ Ok samples) × (reads_of found.items ≡ reads_of one.found.items ++ read reference samples ∷ []))
       → Leads asked cache (most * length one.later.items + length pending + 1) (Where (ArePending (with_found one found) pending) (Leading (shows_out asked cache (with_found one found) (map pending_chunk pending) (reads_of found.items)))) r
       → Leads asked cache (most * length one.later.items + length pending + 1) (Where (IsSingleWork one reference pending) (Leading (with_single asked cache one reference pending seq bytes))) r
   single_read cache one found reference pending seq bytes r tested leads =
@@ -247,11 +247,11 @@ module _ (asked : Asked) where
       })
       (λ order. let are = tested order.ascend in
       subst (λ (l : List Read). Keeps (shows_out asked cache one (map pending_chunk pending) l) (with_single asked cache one reference pending seq bytes)) (sym are.2)
-      (keeps_read (tests_at B one.places.items reference bytes) are.0 _ _ are.1))
+      (keeps_read (tests_at Q B one.places.items reference bytes) are.0 _ _ are.1))
       leads
 
   pub single_damaged : (cache : Cache) (one : ChunkWork) (reference : ℕ) (pending : List Pending) (seq : ℕ) (bytes : List ℕ)
-      → (IsNonDecreasingBy reference_of one.places.items → IsErr (tests_at B one.places.items reference bytes))
+      → (IsNonDecreasingBy reference_of one.places.items → IsErr (tests_at Q B one.places.items reference bytes))
       → Where (IsSingleWork one reference pending) (Leading (with_single asked cache one reference pending seq bytes)) [] (Some (outcome.Damaged seq)) cache
   single_damaged cache one reference pending seq bytes refused = λ order.
       comes_kept (ends (breaks_off (damaged seq) cache)) (with_single asked cache one reference pending seq bytes) (IsEnd cache) (keeps_refused _ _ _ (refused order.ascend)) [] (Some (outcome.Damaged seq)) (breaks cache (damaged seq))
@@ -267,17 +267,17 @@ module _ (asked : Asked) where
       comes_kept (ends (breaks_off (damaged last) cache)) (chunks_left asked (reached last cache) series) (IsEnd cache) (keeps_false (have_keys (places_of series)) _ _ is) [] (Some (outcome.Damaged last)) (breaks cache (damaged last))
 
   abbrev Left : List IndexSeries → Cache → List (Stretch ℕ) → Plan BlockEnd
-  Left series cache cut = reads_groups breaks_off B.ulid (tests_at B (places_of series)) cache (shows_all Q B cache series) (map group_of cut) []
+  Left series cache cut = reads_groups breaks_off B.ulid (tests_at Q B (places_of series)) cache (shows_all Q B cache series) (map group_of cut) []
 
   abbrev Cut : List IndexSeries → Cache → List ℕ → Plan BlockEnd
-  Cut series cache found = reads_references breaks_off B.ulid (tests_at B (places_of series)) cache (shows_all Q B cache series) found
+  Cut series cache found = reads_references breaks_off B.ulid (tests_at Q B (places_of series)) cache (shows_all Q B cache series) found
 
   groups_kept : (cache : Cache) (last : ℕ) (series : List IndexSeries) (sorted : List ChunkPlace) (references : List ℕ) (groups : List GroupRead) → have_keys (places_of series) ≡ true
       → IsSetOf (map reference_of (places_of series)) references → AreGroupsToRead references groups → IsPermutation (places_of series) sorted
       → Keeps (shows_groups asked cache series sorted groups []) (chunks_left asked (reached last cache) series)
   groups_kept cache last series sorted references groups keys set (cut, are, same) permuted =
-      subst (λ (t : Tests). Keeps (reads_groups breaks_off B.ulid t cache (shows_all Q B cache series) (map group_read groups) []) (chunks_left asked (reached last cache) series)) (same_tests B (places_of series) sorted permuted)
-      (subst (λ (gs : List Group). Keeps (reads_groups breaks_off B.ulid (tests_at B (places_of series)) cache (shows_all Q B cache series) gs []) (chunks_left asked (reached last cache) series)) (sym same)
+      subst (λ (t : Tests). Keeps (reads_groups breaks_off B.ulid t cache (shows_all Q B cache series) (map group_read groups) []) (chunks_left asked (reached last cache) series)) (same_tests Q B (places_of series) sorted permuted)
+      (subst (λ (gs : List Group). Keeps (reads_groups breaks_off B.ulid (tests_at Q B (places_of series)) cache (shows_all Q B cache series) gs []) (chunks_left asked (reached last cache) series)) (sym same)
       (keeps_on (Left series cache cut) (finds (IsSetOf (map reference_of (places_of series))) (one_set (map reference_of (places_of series))) (λ found. Cut series cache found)) (chunks_left asked (reached last cache) series)
       (keeps_on (Left series cache cut) (Cut series cache references) (finds (IsSetOf (map reference_of (places_of series))) (one_set (map reference_of (places_of series))) (λ found. Cut series cache found))
       (keeps_found (AreGroups references) (one_cut IsNear references) (λ found. Left series cache found) cut are)

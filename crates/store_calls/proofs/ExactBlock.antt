@@ -31,7 +31,7 @@ use Rattle.bucket_core.specs.Contents.{Contents}
 use Rattle.bucket_core.specs.Contents as stored
 use Rattle.store_chunks.specs.Taken.{samples_of, shown, taken}
 use Rattle.store_ranges.specs.ChunkRanges.{IsSetOf, meets, offset_of, segment_of}
-use Rattle.store_chunks.specs.ChunkReads.{Read, places_at, tests_at}
+use Rattle.store_chunks.specs.ChunkReads.{Read, in_range, places_at, tests_at}
 use Rattle.store_ranges.specs.IndexRanges.{Piece}
 use Rattle.store_ranges.specs.Reads.{Block, Query, range_of}
 use Rattle.store_calls.specs.Exact.{HoldsBlock, StandsIn, asked_of, held_by}
@@ -75,19 +75,35 @@ none_asked query labels (s ∷ samples) differ =
     let one : Triple = record { labels = labels; time = s.time; pattern = s.pattern } in
     filter_miss (is_selected query.selector query.low query.high) one (triples_under labels samples) (ap (λ b. b && is_between query.low query.high s.time) differ) ∙ none_asked query labels samples differ
 
+-- those in the range, under labels
+range_under : (query : Query) (labels : List Label) (samples : List Sample) → triples_under labels (in_range query samples) ≡ filter (λ t. is_between query.low query.high t.time) (triples_under labels samples)
+unfolding triples_under
+range_under query labels [] = refl
+range_under query labels (s ∷ samples) =
+    let one : Triple = record { labels = labels; time = s.time; pattern = s.pattern } in
+    by_bool (is_between query.low query.high s.time)
+    (λ t. ap (triples_under labels) (filter_hit (λ (x : Sample). is_between query.low query.high x.time) s samples t) ∙ ap (λ l. one ∷ l) (range_under query labels samples)
+    ∙ sym (filter_hit (λ (x : Triple). is_between query.low query.high x.time) one (triples_under labels samples) t))
+    (λ f. ap (triples_under labels) (filter_miss (λ (x : Sample). is_between query.low query.high x.time) s samples f) ∙ range_under query labels samples
+    ∙ sym (filter_miss (λ (x : Triple). is_between query.low query.high x.time) one (triples_under labels samples) f))
+
 -- ---- series
 
--- the chunks of these places were read
+-- the chunks of these places were read, and cut to the range
 abbrev AreReadAs : List (List ℕ) → Query → List Read → List ChunkPlace → Type 0
-AreReadAs segments query all chunks = (place : ChunkPlace) → Contains chunks place → meets query.low query.high place ≡ true → (part : List Sample) → IsChunkOf segments place part → samples_of all place ≡ part
+AreReadAs segments query all chunks = (place : ChunkPlace) → Contains chunks place → meets query.low query.high place ≡ true → (part : List Sample) → IsChunkOf segments place part → samples_of all place ≡ in_range query part
 
 module _ (segments : List (List ℕ)) (query : Query) (block : Block) (all : List Read) where
   abbrev within : List Triple → List Triple
   within triples = filter (λ t. is_between query.low query.high t.time) triples
 
+  none_within : (labels : List Label) → triples_under labels [] ≡ within (triples_under labels [])
+  unfolding triples_under
+  none_within labels = refl
+
   chunks_within : (labels : List Label) (chunks : List ChunkPlace) (parts : List (List Sample)) → AllZip (IsChunkOf segments) chunks parts → AreReadAs segments query all chunks
-      → within (triples_under labels (flat_map (samples_of all) (filter (meets query.low query.high) chunks))) ≡ within (triples_under labels (flat_map (λ part. part) parts))
-  chunks_within labels [] [] zip reads = refl
+      → triples_under labels (flat_map (samples_of all) (filter (meets query.low query.high) chunks)) ≡ within (triples_under labels (flat_map (λ part. part) parts))
+  chunks_within labels [] [] zip reads = none_within labels
   chunks_within labels [] (p ∷ parts) zip reads = absurd zip
   chunks_within labels (c ∷ chunks) [] zip reads = absurd zip
   chunks_within labels (c ∷ chunks) (p ∷ parts) zip reads =
@@ -98,10 +114,10 @@ module _ (segments : List (List ℕ)) (query : Query) (block : Block) (all : Lis
       let whole : within (triples_under labels (p ++ right)) ≡ within (triples_under labels p) ++ within (triples_under labels right) =
       ap within (triples_under-append labels p right) ∙ filter-append test (triples_under labels p) (triples_under labels right) in
       by_bool (meets query.low query.high c)
-      (λ t. ap (λ l. within (triples_under labels (flat_map (samples_of all) l))) (filter_hit (meets query.low query.high) c chunks t)
-      ∙ ap (λ l. within (triples_under labels (l ++ left))) (reads c (contains_first c chunks) t p zip.0)
-      ∙ ap within (triples_under-append labels p left) ∙ filter-append test (triples_under labels p) (triples_under labels left) ∙ ap (λ l. within (triples_under labels p) ++ l) later ∙ sym whole)
-      (λ f. ap (λ l. within (triples_under labels (flat_map (samples_of all) l))) (filter_miss (meets query.low query.high) c chunks f) ∙ later
+      (λ t. ap (λ l. triples_under labels (flat_map (samples_of all) l)) (filter_hit (meets query.low query.high) c chunks t)
+      ∙ ap (λ l. triples_under labels (l ++ left)) (reads c (contains_first c chunks) t p zip.0)
+      ∙ triples_under-append labels (in_range query p) left ∙ ap₂ (λ a b. a ++ b) (range_under query labels p) later ∙ sym whole)
+      (λ f. ap (λ l. triples_under labels (flat_map (samples_of all) l)) (filter_miss (meets query.low query.high) c chunks f) ∙ later
       ∙ ap (λ l. l ++ within (triples_under labels right)) (sym (none_between query.low query.high labels c p f (text_between c zip.0.content p zip.0.reads zip.0.timed))) ∙ sym whole)
 
   abbrev matches : IndexSeries → Bool
@@ -163,13 +179,13 @@ module _ (contents : Contents) (query : Query) (block : Block) (list : List Seri
   range_in key object piece bytes is shown =
       let told : ◌≡◌ {A = Option (List ℕ)} (Some (take piece.len (drop piece.from object))) (Some bytes) = subst (λ o. option_map (stored.range_of piece.from piece.len) o ≡ Some bytes) is shown in cc (told)
 
-  place_read : (places : List ChunkPlace) (all : List Read) → AreChunksRead (KnownIn contents) (WholeIn contents) block.ulid (tests_at block places) all
+  place_read : (places : List ChunkPlace) (all : List Read) → AreChunksRead (KnownIn contents) (WholeIn contents) block.ulid (tests_at query block places) all
       → (place : ChunkPlace) → Contains (map (λ (one : Read). one.reference) all) (reference_of place) → place.offset < 2 ^ 32
-      → (part : List Sample) → IsChunkOf holds.segments place part → samples_of all place ≡ part
+      → (part : List Sample) → IsChunkOf holds.segments place part → samples_of all place ≡ in_range query part
   place_read places all each place has fits part chunk =
-      let found = found_read (IsChunkRead (KnownIn contents) (WholeIn contents) block.ulid (tests_at block places)) (reference_of place) all each has in
+      let found = found_read (IsChunkRead (KnownIn contents) (WholeIn contents) block.ulid (tests_at query block places)) (reference_of place) all each has in
       let one : Read = found.0 in
-      let read : IsChunkRead (KnownIn contents) (WholeIn contents) block.ulid (tests_at block places) one = found.1 in
+      let read : IsChunkRead (KnownIn contents) (WholeIn contents) block.ulid (tests_at query block places) one = found.1 in
       let stands = chunk.stands in
       let numbered : segment_of read.first ≡ place.segment + 1 =
       read.same_segment ∙ ap segment_of found.2 ∙ ap (λ n. n + 1) (segment_of_place place.segment place.offset fits) in
@@ -179,12 +195,13 @@ module _ (contents : Contents) (query : Query) (block : Block) (list : List Seri
       let behind : place.offset ≡ read.piece.from + (one.reference - read.first) =
       sym (offset_of_place place.segment place.offset fits) ∙ ap offset_of (sym found.2) ∙ same_offset read.first one.reference read.same_segment read.behind
       ∙ ap (λ n. n + (one.reference - read.first)) (sym read.from) in
-      let same : one.samples ≡ part =
-      stored_same stands.segment read.piece.from read.piece.len (one.reference - read.first) place.offset chunk.content one.samples part
-      (each_member IsBytes holds.segments stands.segment holds.bytes.1 (contains_place holds.segments place.segment stands.segment stands.named)) behind stands.stands.stands chunk.reads
-      (tested_read block (places_at places one.reference) (drop (one.reference - read.first) (take read.piece.len (drop read.piece.from stands.segment))) one.samples
-      (subst (λ b. tests_at block places one.reference (drop (one.reference - read.first) b) ≡ Ok one.samples) (sym bytes) read.read_so.reads_as)) in
-      ap (λ o. unwrap_or (option_map (λ (r : Read). r.samples) o) []) found.3 ∙ same
+      let tested =
+      tested_read query block (places_at places one.reference) (drop (one.reference - read.first) (take read.piece.len (drop read.piece.from stands.segment))) one.samples
+      (subst (λ b. tests_at query block places one.reference (drop (one.reference - read.first) b) ≡ Ok one.samples) (sym bytes) read.read_so.reads_as) in
+      let same : tested.0 ≡ part =
+      stored_same stands.segment read.piece.from read.piece.len (one.reference - read.first) place.offset chunk.content tested.0 part
+      (each_member IsBytes holds.segments stands.segment holds.bytes.1 (contains_place holds.segments place.segment stands.segment stands.named)) behind stands.stands.stands chunk.reads tested.1 in
+      ap (λ o. unwrap_or (option_map (λ (r : Read). r.samples) o) []) found.3 ∙ tested.2 ∙ ap (in_range query) same
 
   pub index_bytes : holds.index_is.opened.bytes ≡ holds.index
   index_bytes = holds.index_is.bytes_are
@@ -197,7 +214,7 @@ module _ (contents : Contents) (query : Query) (block : Block) (list : List Seri
       (subst (λ (x : IndexSeries). AllByRecursion (λ (c : ChunkPlace). c.offset < 2 ^ 32) x.chunks) listed.2 (turn_fits None stands.stands.chunks listed.0.1.chunks stands.stands.chunks_are)) has
 
   pub share_is : named_replicas query.replicas query.selector ≡ [] → (series : List IndexSeries) (all : List Read) → AreSeries (KnownIn contents) (WholeIn contents) query block series
-      → AreChunksRead (KnownIn contents) (WholeIn contents) block.ulid (tests_at block (flat_map (taken query) series)) all
+      → AreChunksRead (KnownIn contents) (WholeIn contents) block.ulid (tests_at query block (flat_map (taken query) series)) all
       → IsSetOf (map reference_of (flat_map (taken query) series)) (map (λ (one : Read). one.reference) all)
       → flat_map (shown query block all) series ≡ asked_of query block list
   share_is unnamed series all are each set =

@@ -17,8 +17,8 @@ use Rattle.xor_chunks.specs.Grammar.{IsText}
 use Rattle.xor_chunks.specs.Data.{data_at}
 use Rattle.xor_chunks.specs.declared.refusal.XorRefusal.{XorRefusal}
 use Rattle.xor_chunks.proofs.TextsRead.{data_again}
-use Rattle.store_chunks.specs.ChunkReads.{Read, chunk_samples_at, is_chunk_of, stored_at}
-use Rattle.store_ranges.specs.Reads.{Block}
+use Rattle.store_chunks.specs.ChunkReads.{Read, chunk_samples_at, in_range, is_chunk_of, stored_at, tested_at}
+use Rattle.store_ranges.specs.Reads.{Query, Block}
 use Rattle.index_parts.specs.declared.chunk_place.ChunkPlace.{ChunkPlace}
 
 -- ---- a part of a segment
@@ -56,13 +56,15 @@ stored_same segment from len k offset content samples part bytes place stands is
     let decoded : data_at 8 one.0 ≡ Ok samples = refused_as_ok _ _ _ one.2 in
     ok_is {E = XorRefusal} samples part (sym decoded ∙ ap (data_at 8) same ∙ data_again 8 content part is)
 
--- what is tested was read so
-pub tested_read : (block : Block) (places : List ChunkPlace) (bytes : List ℕ) (samples : List Sample) → chunk_samples_at block places bytes ≡ Ok samples → stored_at bytes ≡ Ok samples
-unfolding chunk_samples_at
-tested_read block places bytes samples read =
-    let one = bind_ok _ _ _ read in
-    let tests = unless_ok (list_all (is_chunk_of block one.0) places) tt _ samples one.2 in
-    one.1 ∙ tests.1
+-- what is tested was read so, and those in the range are given
+pub tested_read : (query : Query) (block : Block) (places : List ChunkPlace) (bytes : List ℕ) (samples : List Sample) → chunk_samples_at query block places bytes ≡ Ok samples
+    → (whole : List Sample) × (stored_at bytes ≡ Ok whole) × (samples ≡ in_range query whole)
+unfolding chunk_samples_at tested_at
+tested_read query block places bytes samples read =
+    let given = bind_ok _ _ _ read in
+    let one = bind_ok _ _ _ given.1 in
+    let tests = unless_ok (list_all (is_chunk_of block one.0) places) tt _ given.0 one.2 in
+    (given.0, one.1 ∙ tests.1, sym (ok_is {E = Unit {0}} (in_range query given.0) samples given.2))
 
 -- ---- a reference
 

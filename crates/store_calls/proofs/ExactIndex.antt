@@ -41,7 +41,8 @@ use Rattle.index_v2.specs.declared.refusal.IndexRefusal.{IndexRefusal}
 use Rattle.index_v2.proofs.ListNumbers.{none_rise, numbers_rise}
 use Rattle.index_v2.proofs.OpeningLaws.{opened_again}
 use Rattle.series_selection.specs.Selections.{IsSelection}
-use Rattle.series_selection.proofs.Matching.{above_first, first_of, selection_matches}
+use Rattle.index_v2.proofs.Apart.{above_first}
+use Rattle.series_selection.proofs.Matching.{first_of, selection_matches}
 use Rattle.store_ranges.specs.IndexRanges.{Piece, contents_piece, section_piece}
 use Rattle.store_ranges.specs.IndexReads.{part_at, tables_of}
 use Rattle.store_ranges.specs.ChunkRanges.{IsSetOf}

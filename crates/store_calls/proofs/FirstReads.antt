@@ -20,7 +20,7 @@ either false one other told first second run = second run
 -- what follows the series of the index
 abbrev after : (query : Query) (block : Block) → Goes {E = BlockEnd} breaks_off query block
 after query block at series =
-    reads_chunks breaks_off block (flat_map (taken query) series) at.cache at.last (λ found. ends (gives (flat_map (shown query block found) series) at.cache))
+    reads_chunks breaks_off query block (flat_map (taken query) series) at.cache at.last (λ found. ends (gives (flat_map (shown query block found) series) at.cache))
 
 by_index : (query : Query) (block : Block) (cache : Cache) (size : Option ℕ) (told : BlockEnd) → EndsAtOnce (by_size breaks_off query block size (after query block) cache) told → ⊥
 by_index query block cache None told run = cc (run)

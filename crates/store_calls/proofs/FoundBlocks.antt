@@ -54,7 +54,7 @@ use Rattle.meta_fetcher.specs.declared.view.View.{View}
 use Rattle.store_chunks.specs.Taken.{taken}
 use Rattle.store_calls.specs.BlockReads.{BlockEnd, gives, breaks_off, block_call}
 use Rattle.store_ranges.specs.ChunkRanges.{group_of, group_piece, meets, offset_of, segment_of}
-use Rattle.store_chunks.specs.ChunkReads.{Glimpse, chunk_len_at, chunk_samples_at, glimpse_at, have_keys, is_chunk_of, places_at, sticks_out, tests_at}
+use Rattle.store_chunks.specs.ChunkReads.{Glimpse, chunk_len_at, chunk_samples_at, glimpse_at, have_keys, in_range, is_chunk_of, places_at, sticks_out, tested_at, tests_at}
 use Rattle.store_ranges.specs.IndexReads.{tables_of}
 use Rattle.store_ranges.specs.Reads.{Block, Cache, Query, missing, damaged, fault, range_of}
 use Rattle.store_ranges.specs.Stretches.{Stretch, members}
@@ -178,8 +178,8 @@ module _ (contents : Contents) (query : Query) (block : Block) (list : List Seri
         five (are_some one.part) (have_times_of other one.part) (int_le block.min_time other.min) (int_lt other.max block.max_time) (nat_le header_size other.offset)
         (timed_are_there other one.part timed) (times_again other one.part timed) (grind (arith, ints, early)) (grind (arith, ints, late)) (grind (arith, behind))
 
-    tests_pass : (place : ChunkPlace) (one : IsThere place) (bytes : List ℕ) → IsFront bytes one.chunk.content → tests_at block places (reference_of place) bytes ≡ Ok one.part
-    unfolding chunk_samples_at
+    tests_pass : (place : ChunkPlace) (one : IsThere place) (bytes : List ℕ) → IsFront bytes one.chunk.content → tests_at query block places (reference_of place) bytes ≡ Ok (in_range query one.part)
+    unfolding chunk_samples_at tested_at
     tests_pass place one bytes front =
         rw (
           stored_front bytes one.chunk.content one.part front one.chunk.reads,
@@ -231,21 +231,21 @@ module _ (contents : Contents) (query : Query) (block : Block) (list : List Seri
         size_seen : chunk_len_at bytes k ≡ Ok (length front.1.0)
         size_seen = size_there front.1.0 one.chunk.content front.0 front.1.1 bytes k n (omega (arith, far)) behind_k content_small
 
-        whole_seen : nat_le (k + length front.1.0) (group_piece stretch).len ≡ true → tests_at block places (reference_of place) (drop k bytes) ≡ Ok one.part
+        whole_seen : nat_le (k + length front.1.0) (group_piece stretch).len ≡ true → tests_at query block places (reference_of place) (drop k bytes) ≡ Ok (in_range query one.part)
         whole_seen fits =
             let le : length front.1.0 ≤ n = grind (arith, fits) in
             tests_pass place one (drop k bytes) (subst (λ b. IsFront b one.chunk.content) (sym behind_k) (whole_front front.1.0 one.chunk.content front.0 front.1.1 n le))
 
-        seen : (g : Glimpse) × (glimpse_at (tests_at block places) (group_of stretch) bytes (reference_of place) ≡ Ok g)
-        seen = glimpse_there (tests_at block places) (group_of stretch) bytes (reference_of place) (length front.1.0) size_seen one.part whole_seen
+        seen : (g : Glimpse) × (glimpse_at (tests_at query block places) (group_of stretch) bytes (reference_of place) ≡ Ok g)
+        seen = glimpse_there (tests_at query block places) (group_of stretch) bytes (reference_of place) (length front.1.0) size_seen (in_range query one.part) whole_seen
 
         -- what sticks out has the chunk's size
-        out_is : (len : ℕ) → glimpse_at (tests_at block places) (group_of stretch) bytes (reference_of place) ≡ Ok (sticks_out len) → length front.1.0 ≡ len
-        out_is len is = out_there (tests_at block places) (group_of stretch) bytes (reference_of place) (length front.1.0) size_seen len is
+        out_is : (len : ℕ) → glimpse_at (tests_at query block places) (group_of stretch) bytes (reference_of place) ≡ Ok (sticks_out len) → length front.1.0 ≡ len
+        out_is len is = out_there (tests_at query block places) (group_of stretch) bytes (reference_of place) (length front.1.0) size_seen len is
 
       -- in a range of its own
       alone_passes : (len : ℕ) → length front.1.0 ≡ len → (bytes : List ℕ) → KnownIn contents (Segment block.ulid (segment_of (reference_of place))) (record { from = offset_of (reference_of place); len = len }) bytes
-          → tests_at block places (reference_of place) bytes ≡ Ok one.part
+          → tests_at query block places (reference_of place) bytes ≡ Ok (in_range query one.part)
       alone_passes len size bytes shown =
           let own : take len (drop (offset_of (reference_of place)) segment) ≡ bytes =
           range_in contents query block list holds (Segment block.ulid (segment_of (reference_of place))) segment (record { from = offset_of (reference_of place); len = len }) bytes
@@ -261,32 +261,32 @@ module _ (contents : Contents) (query : Query) (block : Block) (list : List Seri
     sought_there reference sought = of_map reference_of places reference sought
 
     group_seen : (stretch : Stretch ℕ) (bytes : List ℕ) → KnownIn contents (Segment block.ulid (segment_of stretch.first)) (group_piece stretch) bytes → (reference : ℕ)
-        → IsWithin stretch reference → IsSoughtOf query series reference → (g : Glimpse) × (glimpse_at (tests_at block places) (group_of stretch) bytes reference ≡ Ok g)
+        → IsWithin stretch reference → IsSoughtOf query series reference → (g : Glimpse) × (glimpse_at (tests_at query block places) (group_of stretch) bytes reference ≡ Ok g)
     group_seen stretch bytes shown reference near sought =
         let p = sought_there reference sought in
-        subst (λ r. (g : Glimpse) × (glimpse_at (tests_at block places) (group_of stretch) bytes r ≡ Ok g)) p.2
+        subst (λ r. (g : Glimpse) × (glimpse_at (tests_at query block places) (group_of stretch) bytes r ≡ Ok g)) p.2
         (seen p.0 (place_there p.0 p.1) stretch (subst (IsWithin stretch) (sym p.2) near) bytes shown)
 
-    out_passes : (stretch : Stretch ℕ) (reference len : ℕ) → SticksOut (KnownIn contents) (WholeIn contents) block.ulid (tests_at block places) (IsSoughtOf query series) stretch reference len → (bytes : List ℕ)
-        → KnownIn contents (Segment block.ulid (segment_of reference)) (record { from = offset_of reference; len = len }) bytes → (part : List Sample) × (tests_at block places reference bytes ≡ Ok part)
+    out_passes : (stretch : Stretch ℕ) (reference len : ℕ) → SticksOut (KnownIn contents) (WholeIn contents) block.ulid (tests_at query block places) (IsSoughtOf query series) stretch reference len → (bytes : List ℕ)
+        → KnownIn contents (Segment block.ulid (segment_of reference)) (record { from = offset_of reference; len = len }) bytes → (part : List Sample) × (tests_at query block places reference bytes ≡ Ok part)
     out_passes stretch reference len out bytes shown =
         let p = sought_there reference out.sought in
         let one = place_there p.0 p.1 in
         let size = out_is p.0 one stretch (subst (IsWithin stretch) (sym p.2) out.within) out.bytes out.known_so len
-        (subst (λ r. glimpse_at (tests_at block places) (group_of stretch) out.bytes r ≡ Ok (sticks_out len)) (sym p.2) out.sees) in (
-          one.part,
-          subst (λ r. tests_at block places r bytes ≡ Ok one.part) p.2
+        (subst (λ r. glimpse_at (tests_at query block places) (group_of stretch) out.bytes r ≡ Ok (sticks_out len)) (sym p.2) out.sees) in (
+          in_range query one.part,
+          subst (λ r. tests_at query block places r bytes ≡ Ok (in_range query one.part)) p.2
               (alone_passes p.0 one len size bytes (subst (λ r. KnownIn contents (Segment block.ulid (segment_of r)) (record { from = offset_of r; len = len }) bytes) (sym p.2) shown)),
         )
 
-    lacks_no_chunk : (stretch : Stretch ℕ) → LacksChunks (KnownIn contents) (WholeIn contents) block.ulid (tests_at block places) (IsSoughtOf query series) stretch → ⊥
+    lacks_no_chunk : (stretch : Stretch ℕ) → LacksChunks (KnownIn contents) (WholeIn contents) block.ulid (tests_at query block places) (IsSoughtOf query series) stretch → ⊥
     lacks_no_chunk stretch (inl (near, bytes, shown, err)) =
-        each_read_so (glimpse_at (tests_at block places) (group_of stretch) bytes) (members stretch)
+        each_read_so (glimpse_at (tests_at query block places) (group_of stretch) bytes) (members stretch)
         (λ reference has.
         let own = each_member (λ r. IsWithin stretch r × IsSoughtOf query series r) (members stretch) reference near has in
         group_seen stretch bytes shown reference own.0 own.1) err
     lacks_no_chunk stretch (inr (reference, len, out, bytes, shown, err)) =
-        let part = out_passes stretch reference len out bytes shown in not_refused (tests_at block places reference bytes) part.0 part.1 err
+        let part = out_passes stretch reference len out bytes shown in not_refused (tests_at query block places reference bytes) part.0 part.1 err
 
     keys_there : have_keys places ≡ true
     keys_there = all_of_members (λ (place : ChunkPlace). nat_lt place.segment 999_999) places

@@ -66,7 +66,7 @@ pub record AreRead (selector : List Matcher) (t s p l r c : List ℕ) (symbols :
   selected : IsTakenBy (query selector) block (tables symbols rows l) (2 ∷ [])
   r_sized : (length r == 16) ≡ true
   r_read : each_at (numbered_at (known (part_at (piece 32 16) r)) symbols) (2 ∷ []) ≡ Ok (series labels ∷ [])
-  c_read : each_at (glimpse_at (tests_at block (place ∷ [])) (group_of (only 8)) c) (8 ∷ []) ≡ Ok (shows samples ∷ [])
+  c_read : each_at (glimpse_at (tests_at (query selector) block (place ∷ [])) (group_of (only 8)) c) (8 ∷ []) ≡ Ok (shows samples ∷ [])
 
 abbrev empty : Cache
 empty = lru_cache [] 1024

@@ -12,7 +12,7 @@ use Rattle.store_chunks.specs.Taken.{taken, shown}
 abbrev pub reads_block : {E : Type 0} → (Break → Cache → E) → Query → Block → Cache → (Cache → List Triple → Plan E) → Plan E
 reads_block breaks query block cache next =
     reads_index breaks query block cache
-    (λ at series. reads_chunks breaks block (flat_map (taken query) series) at.cache at.last
+    (λ at series. reads_chunks breaks query block (flat_map (taken query) series) at.cache at.last
     (λ found. next at.cache (flat_map (shown query block found) series)))
 
 -- ---- the call

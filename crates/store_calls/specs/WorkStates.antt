@@ -51,7 +51,7 @@ shows_all query block cache series found = ends (gives (flat_map (shown query bl
 
 abbrev pub after_index : (query : Query) (block : Block) → Goes {E = BlockEnd} breaks_off query block
 after_index query block at series =
-    reads_chunks breaks_off block (flat_map (taken query) series) at.cache at.last (shows_all query block at.cache series)
+    reads_chunks breaks_off query block (flat_map (taken query) series) at.cache at.last (shows_all query block at.cache series)
 
 abbrev pub symbols_piece : Sections → Piece
 symbols_piece places = section_piece places.toc places.size places.toc.symbols
@@ -159,7 +159,7 @@ module _ (asked : Asked) where
   -- the chunks of these groups, behind those that were read, and then the end
   abbrev pub shows_groups : Cache → List IndexSeries → List ChunkPlace → List GroupRead → List Read → Plan BlockEnd
   shows_groups cache series places groups =
-      reads_groups breaks_off its_block.ulid (tests_at its_block places) cache (shows_all its_query its_block cache series) (map group_read groups)
+      reads_groups breaks_off its_block.ulid (tests_at its_query its_block places) cache (shows_all its_query its_block cache series) (map group_read groups)
 
   -- the groups behind the one at hand
   abbrev pub later_groups : ChunkWork → Cache → List Read → Plan BlockEnd
@@ -168,19 +168,19 @@ module _ (asked : Asked) where
   -- the chunks of the group at hand that are left
   abbrev pub shows_out : Cache → ChunkWork → List (ℕ × Glimpse) → List Read → Plan BlockEnd
   shows_out cache work pending =
-      reads_out breaks_off its_block.ulid (tests_at its_block work.places.items) cache (group_read work.group) (later_groups work cache) pending
+      reads_out breaks_off its_block.ulid (tests_at its_query its_block work.places.items) cache (group_read work.group) (later_groups work cache) pending
 
   -- what follows the bytes of a group
   abbrev pub with_group : Cache → ChunkWork → ℕ → List ℕ → Plan BlockEnd
   with_group cache work seq bytes =
-      if_read (each_at (glimpse_at (tests_at its_block work.places.items) (group_read work.group) bytes) work.group.references)
+      if_read (each_at (glimpse_at (tests_at its_query its_block work.places.items) (group_read work.group) bytes) work.group.references)
       (λ glimpses. shows_out cache work (zip work.group.references glimpses) (reads_of work.found.items))
       (ends (breaks_off (damaged seq) cache))
 
   -- what follows the bytes of a chunk that stuck out
   abbrev pub with_single : Cache → ChunkWork → ℕ → List Pending → ℕ → List ℕ → Plan BlockEnd
   with_single cache work reference pending seq bytes =
-      if_read (tests_at its_block work.places.items reference bytes)
+      if_read (tests_at its_query its_block work.places.items reference bytes)
       (λ samples. shows_out cache work (map pending_chunk pending) (reads_of work.found.items ++ read reference samples ∷ []))
       (ends (breaks_off (damaged seq) cache))
 
@@ -193,9 +193,9 @@ module _ (asked : Asked) where
   left_at (AtRun work) cache = waits (piece_of work.run.range) cache (with_run (texts_of work.read) (run_read work.run) (map run_read work.later.items) work.series.items)
   left_at Whole cache = whole_left cache
   left_at (Group work) cache =
-      reads_group breaks_off its_block.ulid (tests_at its_block work.places.items) cache (group_read work.group) (later_groups work cache) (reads_of work.found.items)
+      reads_group breaks_off its_block.ulid (tests_at its_query its_block work.places.items) cache (group_read work.group) (later_groups work cache) (reads_of work.found.items)
   left_at (Single work reference len pending) cache =
-      reads_one breaks_off its_block.ulid (tests_at its_block work.places.items) cache (group_read work.group) reference len
+      reads_one breaks_off its_block.ulid (tests_at its_query its_block work.places.items) cache (group_read work.group) reference len
       (shows_out cache work (map pending_chunk pending.items)) (reads_of work.found.items)
   left_at Over cache = never
 

@@ -10,7 +10,7 @@ use Rattle.xor_chunks.specs.Data.{data_at, with_samples}
 use Rattle.chunk_files.specs.ChunkReading.{chunk_at}
 use Rattle.block_content.proofs.Appending.{parts_of_whole, part_behind, refused_alone}
 use Rattle.store_ranges.specs.Reads.{Block}
-use Rattle.store_chunks.specs.ChunkReads.{is_chunk_of, stored_at, chunk_samples_at}
+use Rattle.store_chunks.specs.ChunkReads.{is_chunk_of, stored_at, tested_at}
 use Rattle.store_ranges.specs.Findings.{ReadsBehind}
 use Rattle.store_chunks.proofs.OneChunk.{no_data, stored}
 use Rattle.store_ranges.proofs.Readings.{err_of}
@@ -31,19 +31,19 @@ data_stops front bytes content e wants is told not_so (inr so) = no_data bytes c
 -- ---- its places
 
 module _ (block : Block) (places : List ChunkPlace) (bytes : List ℕ) where
-  tested : (samples : List Sample) → stored_at bytes ≡ Ok samples → list_all (is_chunk_of block samples) places ≡ true → chunk_samples_at block places bytes ≡ Ok samples
-  unfolding chunk_samples_at
+  tested : (samples : List Sample) → stored_at bytes ≡ Ok samples → list_all (is_chunk_of block samples) places ≡ true → tested_at block places bytes ≡ Ok samples
+  unfolding tested_at
   tested samples is are = rw (is, are) refl
 
-  failed : (samples : List Sample) → stored_at bytes ≡ Ok samples → list_all (is_chunk_of block samples) places ≡ false → IsErr (chunk_samples_at block places bytes)
-  unfolding chunk_samples_at
+  failed : (samples : List Sample) → stored_at bytes ≡ Ok samples → list_all (is_chunk_of block samples) places ≡ false → IsErr (tested_at block places bytes)
+  unfolding tested_at
   failed samples is are = rw (is, are) refl
 
-  stopped : {e : Unit {0}} → stored_at bytes ≡ Err e → IsErr (chunk_samples_at block places bytes)
-  unfolding chunk_samples_at
+  stopped : {e : Unit {0}} → stored_at bytes ≡ Err e → IsErr (tested_at block places bytes)
+  unfolding tested_at
   stopped is = rw is refl
 
-  pub chunk_stops : IsErr (stored_at bytes) → IsErr (chunk_samples_at block places bytes)
+  pub chunk_stops : IsErr (stored_at bytes) → IsErr (tested_at block places bytes)
   chunk_stops refused = stopped (err_of (stored_at bytes) refused).1
 
   -- the samples behind as many are those that were read
@@ -51,10 +51,10 @@ module _ (block : Block) (places : List ChunkPlace) (bytes : List ℕ) where
     same_part : seen ≡ read.0
     same_part = part_behind front read.0 all seen before read.2 count cut
 
-    pub chunk_behind : list_all (is_chunk_of block seen) places ≡ true → (more : List Sample) × (chunk_samples_at block places bytes ≡ Ok more) × (all ≡ front ++ more)
+    pub chunk_behind : list_all (is_chunk_of block seen) places ≡ true → (more : List Sample) × (tested_at block places bytes ≡ Ok more) × (all ≡ front ++ more)
     chunk_behind are = (read.0, tested read.0 read.1 (ap (λ (l : List Sample). list_all (is_chunk_of block l) places) (sym same_part) ∙ are), read.2)
 
-    pub chunk_fails : list_all (is_chunk_of block seen) places ≡ false → IsErr (chunk_samples_at block places bytes)
+    pub chunk_fails : list_all (is_chunk_of block seen) places ≡ false → IsErr (tested_at block places bytes)
     chunk_fails are = failed read.0 read.1 (ap (λ (l : List Sample). list_all (is_chunk_of block l) places) (sym same_part) ∙ are)
 
 -- ---- what was found, by cases

@@ -2,6 +2,7 @@ pub mod OneChunk
 pub mod Between
 pub mod Rows
 pub mod ChunkBehind
+pub mod CutSamples
 pub mod GroupShows
 pub mod FoundChunks
 pub mod ShownSamples

@@ -15,7 +15,6 @@ use Rattle.label_sets.specs.declared.series.Series.{Series}
 use Rattle.label_sets.specs.Finals.{final_of}
 use Rattle.label_sets.specs.Triples.{triples_of}
 use Rattle.label_sets.proofs.LabelValues.{by_bool}
-use Rattle.matchers.specs.Selected.{is_between}
 use Rattle.index_parts.specs.declared.chunk_place.ChunkPlace.{ChunkPlace}
 use Rattle.index_parts.specs.SeriesEntry.{reference_of}
 use Rattle.index_parts.specs.declared.index_series.IndexSeries.{IndexSeries}
@@ -133,7 +132,7 @@ pub row_more : (query : Query) (block : Block) (found left new : List ChunkRow) 
     → here ≡ get_or series i d
     → RowsLeft query block found series made i left
     → ((others : List ChunkRow) → Begins (references_taken query here) left others → (new ≡ others) × (samples ≡ row_begun (references_taken query here) left))
-    → one.labels ≡ final_of here.labels block.external query.replicas → one.samples ≡ filter (λ s. is_between query.low query.high s.time) samples → more ≡ made ++ one ∷ []
+    → one.labels ≡ final_of here.labels block.external query.replicas → one.samples ≡ samples → more ≡ made ++ one ∷ []
     → RowsLeft query block found series more (i + 1) new
 row_more query block found left new series i d here made more one samples within same was took labels kept so =
     let next : drop i series ≡ here ∷ drop (i + 1) series = drop_more series i d within ∙ ap (λ (x : IndexSeries). x ∷ drop (i + 1) series) (sym same) in
@@ -145,8 +144,7 @@ row_more query block found left new series i d here made more one samples within
       have = subst (HaveRows query (drop (i + 1) series)) (sym now.0) have.2;
       triples = λ up. more_shown (shown query block (reads_of found)) series i d made more one within (was.triples up)
           (shown_is query block (reads_of found) here one.labels one.samples labels
-          (kept ∙ ap (filter (λ (s : Sample). is_between query.low query.high s.time))
-          (now.1 ∙ begun query here (references_taken query here) found was.behind.0 left have.0 refl up was.behind.1 have.1))
+          (kept ∙ now.1 ∙ begun query here (references_taken query here) found was.behind.0 left have.0 refl up was.behind.1 have.1)
           ∙ ap (shown query block (reads_of found)) same)
           so;
     }
@@ -274,29 +272,3 @@ no_row row rows e = cc
 pub took_nothing : (refs : List ℕ) (old new others : List ChunkRow) (samples : List Sample) → (refs ≡ [] → ⊥) → old ≡ [] → Begins refs old others → (new ≡ others) × (samples ≡ row_begun refs old)
 took_nothing [] old new others samples some is begins = absurd (some refl)
 took_nothing (r ∷ refs) old new others samples some is (row, so, named) = absurd (no_row row others (sym is ∙ so))
-
--- ---- the range
-
-and_true : (b : Bool) → (b && true) ≡ b
-and_true true = refl
-and_true false = refl
-
-and_behind : (a b c : Bool) → (a && (b && c)) ≡ ((a && b) && c)
-and_behind true b c = refl
-and_behind false b c = refl
-
-module _ (p : Sample → Bool) where
-  all_push : (xs : List Sample) (x : Sample) → list_all p (xs ++ x ∷ []) ≡ (list_all p xs && p x)
-  all_push [] x = and_true (p x)
-  all_push (y ∷ xs) x = ap (λ (b : Bool). p y && b) (all_push xs x) ∙ and_behind (p y) (list_all p xs) (p x)
-
-  -- one sample more was tested
-  pub all_more : (xs : List Sample) (i : ℕ) (d : Sample) (before after : Bool) → i < length xs → before ≡ list_all p (take i xs) → after ≡ (before && p (get_or xs i d)) → after ≡ list_all p (take (i + 1) xs)
-  all_more xs i d before after within was is =
-      is ∙ ap (λ (b : Bool). b && p (get_or xs i d)) was ∙ sym (ap (list_all p) (take_more xs i d within) ∙ all_push (take i xs) (get_or xs i d))
-
-  -- where all are taken, nothing changes
-  pub all_kept : (xs : List Sample) → list_all p xs ≡ true → xs ≡ filter p xs
-  all_kept [] are = refl
-  all_kept (x ∷ xs) are =
-      let two = and_parts (p x) (list_all p xs) are in sym (filter_hit p x xs two.0 ∙ ap (λ (l : List Sample). x ∷ l) (sym (all_kept xs two.1)))

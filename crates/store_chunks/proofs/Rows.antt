@@ -68,6 +68,11 @@ rows_read old rows more row next reference samples was is so =
 pub last_taken : (old new : List ChunkRow) (row : ChunkRow) → old ≡ new ++ row ∷ [] → reads_of old ≡ reads_of new ++ row_reads row
 last_taken old new row is = ap reads_of is ∙ reads_push new row
 
+-- the last row is put back as another one that reads the same
+pub last_put_back : (old rest new : List ChunkRow) (last row : ChunkRow) → old ≡ rest ++ last ∷ [] → row_reads row ≡ row_reads last → new ≡ rest ++ row ∷ [] → reads_of old ≡ reads_of new
+last_put_back old rest new last row was same is =
+    last_taken old rest last was ∙ ap (λ (l : List Read). reads_of rest ++ l) (sym same) ∙ sym (last_taken new rest row is)
+
 -- a row that begins, where no other changes
 pub row_begins : (old new : List ChunkRow) (r : Result ChunkRow NoMemory) → reads_of old ≡ reads_of new → IfOk r (λ row. row_reads row ≡ []) → IfOk r (λ row. reads_of old ≡ reads_of new ++ row_reads row)
 row_begins old new (Ok row) same empty = same ∙ sym (append-nil (reads_of new)) ∙ ap (λ (l : List Read). reads_of new ++ l) (sym empty)

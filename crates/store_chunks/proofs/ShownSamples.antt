@@ -1,17 +1,15 @@
--- The samples of a series in the range, under its final labels.
-use Rattle.std.proofs.Common.{◌≡◌, ℕ, ℤ, ◌+◌, ◌<◌, Bool, true, List, [], ◌∷◌, ◌++◌, take, length, get_or, filter, refl, sym, ap, ap₂, ◌∙◌, append-nil}
+-- The samples of a series that were read, under its final labels.
+use Rattle.std.proofs.Common.{◌≡◌, ℕ, ◌+◌, ◌<◌, Bool, true, List, [], ◌∷◌, ◌++◌, take, length, get_or, filter, refl, sym, ap, ap₂, ◌∙◌, append-nil}
 use Rattle.std.specs.List.{flat_map}
 use Rattle.std.proofs.lemmas.List.{take_more}
 use Rattle.std.proofs.lemmas.List.Elements.{filter-append}
 use Rattle.std.proofs.lemmas.List.Concat.{flat_map-append}
-use Rattle.base.proofs.Lists.{filter_hit, filter_miss}
+use Rattle.base.proofs.Lists.{filter_hit}
 use Rattle.label_sets.specs.declared.label.Label.{Label}
 use Rattle.label_sets.specs.declared.sample.Sample.{Sample}
 use Rattle.label_sets.specs.declared.series.Series.{Series}
 use Rattle.label_sets.specs.Finals.{final_of}
 use Rattle.label_sets.specs.Triples.{Triple, triples_under, triples_of}
-use Rattle.label_sets.proofs.LabelValues.{by_bool}
-use Rattle.matchers.specs.Selected.{is_between}
 use Rattle.index_parts.specs.declared.chunk_place.ChunkPlace.{ChunkPlace}
 use Rattle.index_parts.specs.declared.index_series.IndexSeries.{IndexSeries}
 use Rattle.store_ranges.specs.Reads.{Query, Block}
@@ -33,25 +31,10 @@ met_more f p xs i d before after within was is =
 
 -- ---- triples
 
-abbrev triple_of : List Label → Sample → Triple
-triple_of labels s = record { labels = labels; time = s.time; pattern = s.pattern }
-
-under : (low high : ℤ) (labels : List Label) (samples : List Sample) → triples_under labels (filter (λ s. is_between low high s.time) samples) ≡ filter (λ t. is_between low high t.time) (triples_under labels samples)
-unfolding triples_under
-under low high labels [] = refl
-under low high labels (s ∷ ss) = by_bool (is_between low high s.time)
-    (λ t. ap (triples_under labels) (filter_hit (λ (x : Sample). is_between low high x.time) s ss t)
-    ∙ ap (λ (ts : List Triple). triple_of labels s ∷ ts) (under low high labels ss)
-    ∙ sym (filter_hit (λ (x : Triple). is_between low high x.time) (triple_of labels s) (triples_under labels ss) t))
-    (λ f. ap (triples_under labels) (filter_miss (λ (x : Sample). is_between low high x.time) s ss f)
-    ∙ under low high labels ss
-    ∙ sym (filter_miss (λ (x : Triple). is_between low high x.time) (triple_of labels s) (triples_under labels ss) f))
-
 pub shown_is : (query : Query) (block : Block) (found : List Read) (series : IndexSeries) (labels : List Label) (samples : List Sample) → labels ≡ final_of series.labels block.external query.replicas
-    → samples ≡ filter (λ s. is_between query.low query.high s.time) (flat_map (samples_of found) (taken query series)) → triples_under labels samples ≡ shown query block found series
+    → samples ≡ flat_map (samples_of found) (taken query series) → triples_under labels samples ≡ shown query block found series
 unfolding shown
-shown_is query block found series labels samples is are =
-    ap₂ triples_under is are ∙ under query.low query.high (final_of series.labels block.external query.replicas) (flat_map (samples_of found) (taken query series))
+shown_is query block found series labels samples is are = ap₂ triples_under is are
 
 pub none_shown : (f : IndexSeries → List Triple) → triples_of [] ≡ flat_map f []
 unfolding triples_of

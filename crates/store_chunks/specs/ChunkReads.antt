@@ -1,5 +1,6 @@
 -- The reads of chunks: of each segment groups of chunks that stand near one another, and behind each group its chunks that
--- stick out of what was read. A chunk is tested as soon as the read that holds it is answered.
+-- stick out of what was read. A chunk is tested as soon as the read that holds it is answered; of its samples those in the query's
+-- range are kept.
 use Rattle.std.specs.Prelude.{ℕ, ◌+◌, ◌-◌, ◌==◌, nat_lt, nat_le, int_lt, int_le, Bool, true, false, ◌&&◌, List, [], ◌∷◌, ◌++◌, map, drop, zip, Result, Ok}
 use Rattle.std.specs.List.{filter, list_all}
 use Rattle.block_keys.specs.Keys.{segment_limit}
@@ -7,6 +8,7 @@ use Rattle.base.specs.Reading.{◌>>=◌, ◌>>◌, unless, refused_as}
 use Rattle.wire_bytes.specs.Fields.{uvarint_at}
 use Rattle.label_sets.specs.declared.sample.Sample.{Sample}
 use Rattle.block_keys.specs.declared.key.Key.TheVariants.{Segment}
+use Rattle.matchers.specs.Selected.{is_between}
 use Rattle.world_core.specs.Plans.{Plan, ends, finds, choose}
 use Rattle.world_core.specs.declared.op.Op.TheVariants.{GetRange}
 use Rattle.xor_chunks.specs.Data.{data_at}
@@ -21,7 +23,7 @@ use Rattle.block_content.specs.ContentReading.{are_some, have_times_of}
 use Rattle.store_ranges.specs.OneCut.{one_cut}
 use Rattle.store_ranges.specs.OneSet.{one_set}
 use Rattle.store_ranges.specs.ChunkRanges.{IsSetOf, IsNear, AreGroups, offset_of, Group, group_of}
-use Rattle.store_ranges.specs.Reads.{Block, Cache, Break, damaged, reads, if_read}
+use Rattle.store_ranges.specs.Reads.{Query, Block, Cache, Break, damaged, reads, if_read}
 
 -- ---- one chunk
 
@@ -46,29 +48,39 @@ stored_at bytes = do
   refused_as (λ _. tt) (data_at stored_filling content)
 
 -- the same, where it is the chunk of each of these places
-unfoldable pub chunk_samples_at : Block → List ChunkPlace → List ℕ → Result (List Sample) (Unit {0})
-chunk_samples_at block places bytes = do
+unfoldable pub tested_at : Block → List ChunkPlace → List ℕ → Result (List Sample) (Unit {0})
+tested_at block places bytes = do
   samples ← stored_at bytes
   unless (list_all (is_chunk_of block samples) places) tt
   Ok samples
+
+-- the samples that lie in the range of a query
+abbrev pub in_range : Query → List Sample → List Sample
+in_range query samples = filter (λ s. is_between query.low query.high s.time) samples
+
+-- those of a chunk, all of which was tested
+unfoldable pub chunk_samples_at : Query → Block → List ChunkPlace → List ℕ → Result (List Sample) (Unit {0})
+chunk_samples_at query block places bytes = do
+  samples ← tested_at block places bytes
+  Ok (in_range query samples)
 
 -- the places of a reference
 abbrev pub places_at : List ChunkPlace → ℕ → List ChunkPlace
 places_at places reference = filter (λ place. reference_of place == reference) places
 
--- a reading of the bytes at a reference, as those of a chunk
+-- a reading of the bytes at a reference, as those of a chunk, whose samples in the range it gives
 abbrev pub Tests : Type 0
 Tests = ℕ → List ℕ → Result (List Sample) (Unit {0})
 
 -- that of a chunk which is as each of these places tells
-abbrev pub tests_at : Block → List ChunkPlace → ℕ → List ℕ → Result (List Sample) (Unit {0})
-tests_at block places reference bytes = chunk_samples_at block (places_at places reference) bytes
+abbrev pub tests_at : Query → Block → List ChunkPlace → ℕ → List ℕ → Result (List Sample) (Unit {0})
+tests_at query block places reference bytes = chunk_samples_at query block (places_at places reference) bytes
 
 -- ---- a group
 
 -- what the read of a group shows of a chunk
 pub data Glimpse : Type 0 where
-  -- the whole of it, which has these samples
+  -- the whole of it, which has these samples in the range
   shows : List Sample → Glimpse
   -- only that it takes so many bytes, and so sticks out
   sticks_out : ℕ → Glimpse
@@ -83,7 +95,7 @@ glimpse_at tests group bytes reference = do
   len ← chunk_len_at bytes (reference - group.first)
   glimpse (nat_le (reference - group.first + len) group.piece.len) (tests reference (drop (reference - group.first) bytes)) len
 
--- the samples of the chunk at a reference
+-- the samples in the range of the chunk at a reference
 pub record Read : Type 0 where
   pub reference : ℕ
   pub samples : List Sample
@@ -131,12 +143,12 @@ module _ {E : Type 0} (breaks : Break → Cache → E) (ulid : ℕ) (tests : Tes
 abbrev pub have_keys : List ChunkPlace → Bool
 have_keys places = list_all (λ place. nat_lt place.segment segment_limit) places
 
-module _ {E : Type 0} (breaks : Break → Cache → E) (block : Block) where
+module _ {E : Type 0} (breaks : Break → Cache → E) (query : Query) (block : Block) where
   -- The chunks at these places, where no segment has a number beyond those that a key can have. Last is the entry of the last
   -- read of the index, which shows the places.
   abbrev pub reads_chunks : List ChunkPlace → Cache → ℕ → (List Read → Plan E) → Plan E
   reads_chunks places cache last next =
       choose (have_keys places)
       (finds (IsSetOf (map reference_of places)) (one_set (map reference_of places))
-      (reads_references breaks block.ulid (tests_at block places) cache next))
+      (reads_references breaks block.ulid (tests_at query block places) cache next))
       (ends (breaks (damaged last) cache))

@@ -1,12 +1,12 @@
 //! Chunks that are read behind those of their series.
 ghost use Rattle.std.specs.Prelude.{◌≡◌, [], ◌∷◌, ◌++◌, IfOk};
-ghost use Rattle.store_ranges.specs.Asking.{block_asked};
+ghost use Rattle.store_ranges.specs.Asking.{query_asked, block_asked};
 ghost use Rattle.store_chunks.specs.ChunkReads.{read, chunk_samples_at};
 ghost use Rattle.store_chunks.specs.ChunksRead.{row_reads, reads_of};
 ghost use Rattle.store_chunks.specs.Glimpsed.{ReadsOn};
 
+use crate::chunk_cut::append_chunk;
 use crate::chunk_row::{ChunkRow, RowChunk};
-use crate::chunks::append_chunk;
 use crate::places::meets;
 use base::NoMemory;
 use index_parts::{ChunkPlace, IndexSeries, reference_of};
@@ -17,8 +17,8 @@ use xor_chunks::USUAL_COUNT;
 /// For how many samples there is room in a new row at most.
 const MOST_ROOM: usize = 65_536;
 
-/// Reads the chunk at the front of these bytes behind others. None where it is not a chunk of each
-/// of these places.
+/// Reads the samples in the range of the chunk at the front of these bytes, behind other chunks.
+/// None where it is not a chunk of each of these places.
 pub fn read_behind(
     asked: &Asked<'_>,
     series: &[IndexSeries],
@@ -28,8 +28,8 @@ pub fn read_behind(
     bytes: &[u8],
 ) -> Result<Option<Vec<ChunkRow>>, NoMemory>
     ensures { IfOk result
-        (ReadsOn (λ rows. reads_of rows.items) (reads_of rows.items) reference
-        (chunk_samples_at (block_asked asked.now) places.now bytes.now)) }
+        (ReadsOn (λ rows. reads_of rows.items) (reads_of rows.items) reference (chunk_samples_at
+        (query_asked asked.now) (block_asked asked.now) places.now bytes.now)) }
 {
     let mut all = rows;
     let row = row_for(asked, series, &mut all, reference)?;
@@ -42,7 +42,8 @@ pub fn read_behind(
     }
 }
 
-/// Takes the last row, if the chunk at a reference stands in it, or begins another one.
+/// Takes the last row, if the chunk at a reference stands in it, or begins another one. No row but
+/// the last has spare room.
 fn row_for(
     asked: &Asked<'_>,
     series: &[IndexSeries],
@@ -58,8 +59,25 @@ fn row_for(
     if reference < last.until {
         return Ok(last);
     }
-    rows.push(last)?;
+    rows.push(without_room(last))?;
     new_row(asked, series, reference)
+}
+
+/// A row without its spare room.
+fn without_room(row: ChunkRow) -> ChunkRow
+    ensures { row_reads result ≡ row_reads row }
+{
+    let ChunkRow {
+        chunks,
+        mut samples,
+        until,
+    } = row;
+    samples.shrink_to_fit();
+    ChunkRow {
+        chunks,
+        samples,
+        until,
+    }
 }
 
 /// A row of no chunk, with room for those that meet the range of the series of the chunk at a
@@ -103,7 +121,7 @@ fn first_reference(series: &IndexSeries) -> u64 {
     }
 }
 
-/// Reads the chunk at the front of these bytes behind those of a row.
+/// Reads the samples in the range of the chunk at the front of these bytes, behind those of a row.
 fn row_with(
     asked: &Asked<'_>,
     places: &[ChunkPlace],
@@ -112,8 +130,8 @@ fn row_with(
     bytes: &[u8],
 ) -> Result<Option<ChunkRow>, NoMemory>
     ensures { IfOk result
-        (ReadsOn row_reads (row_reads row) reference
-        (chunk_samples_at (block_asked asked.now) places.now bytes.now)) }
+        (ReadsOn row_reads (row_reads row) reference (chunk_samples_at
+        (query_asked asked.now) (block_asked asked.now) places.now bytes.now)) }
 {
     let ChunkRow {
         mut chunks,

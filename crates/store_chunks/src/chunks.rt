@@ -2,16 +2,17 @@
 ghost use Rattle.std.specs.Prelude.{◌≡◌, ◌↔◌, ◌+◌, ◌≤◌, ◌<◌, ◌-◌, length, IsTrue, IfOk, IfSome, Ok, Err};
 ghost use Rattle.std.specs.List.{list_all};
 ghost use Rattle.std.specs.Result.{result_ok};
+ghost use Rattle.base.specs.Grammar.{IsBytes};
 ghost use Rattle.chunk_files.specs.Layout.{greatest, frame_size};
 ghost use Rattle.store_ranges.specs.Asking.{block_asked};
-ghost use Rattle.store_chunks.specs.ChunkReads.{chunk_len_at, is_chunk_of, stored_at, chunk_samples_at};
-ghost use Rattle.store_ranges.specs.Findings.{ReadsAs, ReadsBehind};
+ghost use Rattle.store_chunks.specs.ChunkReads.{chunk_len_at, is_chunk_of, stored_at, tested_at};
+ghost use Rattle.store_ranges.specs.Findings.{ReadsBehind};
 
 use base::{NoMemory, members_behind};
 use block_content::have_times_of;
 use chunk_files::{FRAME_SIZE, GREATEST, HEADER_SIZE, take_chunk};
 use index_parts::ChunkPlace;
-use label_sets::{Sample, SampleList};
+use label_sets::Sample;
 use store_ranges::Asked;
 use wire_bytes::Cursor;
 use xor_chunks::{XorRefusal, append_stored};
@@ -104,15 +105,16 @@ fn append_data(samples: Vec<Sample>, bytes: &[u8]) -> Result<Option<Vec<Sample>>
 
 /// Reads the samples of the chunk at the front of these bytes, behind others. None where it is not
 /// a chunk of each of these places.
-pub(crate) fn append_chunk(
+pub(crate) fn append_tested(
     asked: &Asked<'_>,
     places: &[ChunkPlace],
     samples: Vec<Sample>,
     bytes: &[u8],
 ) -> Result<Option<Vec<Sample>>, NoMemory>
-    ensures { IfOk result
+    ensures read { IfOk result
         (ReadsBehind (λ all. all.items) samples.items
-        (chunk_samples_at (block_asked asked.now) places.now bytes.now)) }
+        (tested_at (block_asked asked.now) places.now bytes.now)) }
+    ensures bytes { IsBytes bytes.now }
 {
     let before = samples.len();
     let all = match append_data(samples, bytes)? {
@@ -123,21 +125,4 @@ pub(crate) fn append_chunk(
         return Ok(None);
     }
     Ok(Some(all))
-}
-
-/// The samples of the chunk at the front of these bytes. None where it is not a chunk of each of
-/// these places.
-pub(crate) fn chunk_samples(
-    asked: &Asked<'_>,
-    places: &[ChunkPlace],
-    bytes: &[u8],
-) -> Result<Option<SampleList>, NoMemory>
-    ensures { IfOk result
-        (ReadsAs (λ samples. samples)
-        (chunk_samples_at (block_asked asked.now) places.now bytes.now)) }
-{
-    match append_chunk(asked, places, Vec::new(asked.alloc), bytes)? {
-        Some(samples) => Ok(Some(SampleList::from_vec(samples))),
-        None => Ok(None),
-    }
 }

@@ -3,15 +3,16 @@ ghost use Rattle.std.specs.Prelude.{◌≡◌, ◌+◌, ◌-◌, ◌<◌, ◌++�
 ghost use Rattle.std.specs.List.Sorted.{IsNonDecreasingBy};
 ghost use Rattle.index_parts.specs.SeriesEntry.{reference_of};
 ghost use Rattle.base.specs.Firsts.{each_at};
-ghost use Rattle.store_ranges.specs.Asking.{block_asked};
+ghost use Rattle.store_ranges.specs.Asking.{query_asked, block_asked};
 ghost use Rattle.store_ranges.specs.ToRead.{group_read};
 ghost use Rattle.store_chunks.specs.ChunkReads.{places_at, tests_at, glimpse, glimpse_at};
 ghost use Rattle.store_chunks.specs.ChunksRead.{reads_of};
 ghost use Rattle.store_chunks.specs.Glimpsed.{shown_so, ShowsOne, ShowsGroup};
 
+use crate::chunk_cut::chunk_samples;
 use crate::chunk_row::ChunkRow;
 use crate::chunk_rows::read_behind;
-use crate::chunks::{chunk_len, chunk_samples};
+use crate::chunks::chunk_len;
 use base::{NoMemory, members_behind};
 use index_parts::{ChunkPlace, IndexSeries, reference_of};
 use label_sets::SampleList;
@@ -21,7 +22,7 @@ use store_ranges::{Asked, GroupRead};
 /// What the read of a group shows of a chunk.
 #[derive(Drop)]
 pub enum Glimpse {
-    /// The whole of it, which has these samples.
+    /// The whole of it, which has these samples in the range.
     Shows(SampleList),
     /// Only that it takes so many bytes, and so sticks out.
     SticksOut(u64),
@@ -67,8 +68,8 @@ fn with_pending(shown: GroupShown, reference: u64, seen: Glimpse) -> Result<Grou
     Ok(GroupShown { rows, pending })
 }
 
-/// Shows the chunk at the front of these bytes behind others. None where it is not a chunk of each
-/// place of its reference.
+/// Shows the samples in the range of the chunk at the front of these bytes, behind other chunks.
+/// None where it is not a chunk of each place of its reference.
 fn add_chunk(
     asked: &Asked<'_>,
     series: &[IndexSeries],
@@ -79,7 +80,8 @@ fn add_chunk(
 ) -> Result<Option<GroupShown>, NoMemory>
     ensures { IsNonDecreasingBy reference_of places.now
         → IfOk result (ShowsOne (shown_so shown) reference
-        (glimpse true (tests_at (block_asked asked.now) places.now reference bytes.now) 0)) }
+        (glimpse true (tests_at (query_asked asked.now) (block_asked asked.now) places.now
+        reference bytes.now) 0)) }
 {
     let own = places_of(places, reference);
     if !shown.pending.is_empty() {
@@ -110,7 +112,7 @@ fn add_glimpse(
 ) -> Result<Option<GroupShown>, NoMemory>
     ensures { IsNonDecreasingBy reference_of places.now
         → IfOk result (ShowsOne (shown_so shown) reference
-        (glimpse_at (tests_at (block_asked asked.now) places.now)
+        (glimpse_at (tests_at (query_asked asked.now) (block_asked asked.now) places.now)
         (group_read group.now) bytes.now reference)) }
 {
     let whole = bytes.len();
@@ -140,7 +142,7 @@ pub fn glimpses(
 ) -> Result<Option<GroupShown>, NoMemory>
     ensures { IsNonDecreasingBy reference_of places.now
         → IfOk result (ShowsGroup (reads_of found.items) group.now.references
-        (each_at (glimpse_at (tests_at (block_asked asked.now) places.now)
+        (each_at (glimpse_at (tests_at (query_asked asked.now) (block_asked asked.now) places.now)
         (group_read group.now) bytes.now) group.now.references)) }
 {
     let references = group.references.members();
@@ -159,7 +161,7 @@ fn glimpses_at(
 ) -> Result<Option<GroupShown>, NoMemory>
     ensures { IsNonDecreasingBy reference_of places.now
         → IfOk result (ShowsGroup (reads_of found.items) references.now
-        (each_at (glimpse_at (tests_at (block_asked asked.now) places.now)
+        (each_at (glimpse_at (tests_at (query_asked asked.now) (block_asked asked.now) places.now)
         (group_read group.now) bytes.now) references.now)) }
 {
     let mut shown = GroupShown {

@@ -1,6 +1,7 @@
 //! The chunks that ranges of a block give, and which of their samples a gateway shows.
 #![tactic(auto)]
 
+mod chunk_cut;
 mod chunk_row;
 mod chunk_rows;
 mod chunks;

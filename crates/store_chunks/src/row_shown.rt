@@ -1,10 +1,9 @@
-//! The samples that are asked for, by the rows in which their chunks were read.
+//! The samples that are asked for, by the rows in which their chunks were read. A row has only the samples in the range.
 ghost use Rattle.std.specs.Prelude.{◌≡◌, ◌∷◌, [], ◌++◌, List, map, length, not, IfOk, OnOk, IfSome, IsTrue};
 ghost use Rattle.std.specs.List.{filter, flat_map, list_all};
 ghost use Rattle.std.specs.List.Sorted.{IsStrictlyIncreasing};
 ghost use Rattle.label_sets.specs.Finals.{final_of};
 ghost use Rattle.label_sets.specs.Triples.{triples_of};
-ghost use Rattle.matchers.specs.Selected.{is_between};
 ghost use Rattle.index_parts.specs.SeriesEntry.{reference_of};
 ghost use Rattle.store_ranges.specs.ChunkRanges.{meets};
 ghost use Rattle.store_chunks.specs.Taken.{shown};
@@ -25,8 +24,8 @@ use std::alloc::Global;
 use std::collections::VecDeque;
 use store_ranges::Asked;
 
-/// The samples of these series in the range, each under its final labels. Where each series has its
-/// row, it keeps the samples of that row; else each chunk is copied first.
+/// The samples of these series that were read, each under its final labels. Where each series has
+/// its row, it keeps the samples of that row; else each chunk is copied first.
 pub fn all_shown(
     asked: &Asked<'_>,
     series: &[IndexSeries],
@@ -171,7 +170,7 @@ fn takes_none(asked: &Asked<'_>, chunks: &[ChunkPlace]) -> bool
     true
 }
 
-/// A series of those samples that lie in the range, under its final labels.
+/// A series of these samples, under its final labels.
 fn series_of(
     asked: &Asked<'_>,
     series: &IndexSeries,
@@ -180,8 +179,7 @@ fn series_of(
     ensures { IfOk result (λ made.
         (made.labels ≡ final_of series.now.labels
         (block_asked asked.now).external (query_asked asked.now).replicas)
-        × (made.samples ≡ filter (λ s. is_between asked.now.low asked.now.high s.time)
-        samples.items)) }
+        × (made.samples ≡ samples.items)) }
 {
     let labels = final_labels(
         asked.alloc,
@@ -189,44 +187,12 @@ fn series_of(
         &asked.meta.labels,
         asked.replicas,
     )?;
-    let mut kept = samples_in_range(asked, samples);
+    let mut kept = samples;
     kept.shrink_to_fit();
     Ok(Series {
         labels,
         samples: SampleList::from_vec(kept),
     })
-}
-
-/// The samples in the range. As a rule these are all, and then nothing is moved.
-fn samples_in_range(asked: &Asked<'_>, samples: Vec<Sample>) -> Vec<Sample>
-    ensures { result.items
-        ≡ filter (λ s. is_between asked.now.low asked.now.high s.time) samples.items }
-{
-    if are_between(asked, samples.as_slice()) {
-        return samples;
-    }
-    let mut kept = samples;
-    kept.retain(|sample| asked.low <= sample.time && sample.time <= asked.high);
-    kept
-}
-
-/// Whether all samples lie in the range. It has no early end, so that it takes few steps a sample.
-fn are_between(asked: &Asked<'_>, samples: &[Sample]) -> bool
-    ensures { result
-        ≡ list_all (λ s. is_between asked.now.low asked.now.high s.time) samples.now }
-{
-    let mut all = true;
-    for sample in samples {
-        all = all & is_between(asked, sample);
-    }
-    all
-}
-
-/// Whether a sample lies in the range.
-fn is_between(asked: &Asked<'_>, sample: &Sample) -> bool
-    ensures { result ≡ is_between asked.now.low asked.now.high sample.now.time }
-{
-    (asked.low <= sample.time) & (sample.time <= asked.high)
 }
 
 /// The chunks of rows, each by itself.

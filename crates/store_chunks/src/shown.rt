@@ -4,7 +4,6 @@ ghost use Rattle.std.specs.Option.{option_copied};
 ghost use Rattle.std.specs.List.{filter, flat_map};
 ghost use Rattle.std.specs.List.Sorted.{IsStrictlyIncreasing};
 ghost use Rattle.label_sets.specs.Triples.{triples_under, triples_of};
-ghost use Rattle.matchers.specs.Selected.{is_between};
 ghost use Rattle.store_ranges.specs.ChunkRanges.{meets};
 ghost use Rattle.store_chunks.specs.Taken.{samples_of, shown};
 ghost use Rattle.store_ranges.specs.Asking.{query_asked, block_asked};
@@ -47,7 +46,7 @@ fn samples_of<'a>(found: &'a [ChunkRead], place: &ChunkPlace) -> &'a [Sample]
     }
 }
 
-/// The samples of a series in the range, under its final labels.
+/// The samples of a series that were read, under its final labels.
 fn shown(asked: &Asked<'_>, series: &IndexSeries, found: &[ChunkRead]) -> Result<Series, NoMemory>
     ensures { IsStrictlyIncreasing (references_apart found.now)
         → IfOk result (λ made. triples_under made.labels made.samples
@@ -60,28 +59,26 @@ fn shown(asked: &Asked<'_>, series: &IndexSeries, found: &[ChunkRead]) -> Result
         &asked.meta.labels,
         asked.replicas,
     )?;
-    let samples = samples_within(asked, series.chunks.members(), found)?;
+    let samples = samples_read(asked, series.chunks.members(), found)?;
     Ok(Series { labels, samples })
 }
 
-/// The samples of a series in the range.
-fn samples_within(
+/// The samples that were read at those of these places that meet the range.
+fn samples_read(
     asked: &Asked<'_>,
     chunks: &[ChunkPlace],
     found: &[ChunkRead],
 ) -> Result<SampleList, NoMemory>
     ensures { IsStrictlyIncreasing (references_apart found.now)
         → IfOk result (λ samples. samples
-        ≡ filter (λ s. is_between asked.now.low asked.now.high s.time)
-        (flat_map (samples_of (reads_apart found.now))
-        (filter (meets asked.now.low asked.now.high) chunks.now))) }
+        ≡ flat_map (samples_of (reads_apart found.now))
+        (filter (meets asked.now.low asked.now.high) chunks.now)) }
 {
     let room = count_read(asked, chunks, found);
     let mut samples: Vec<Sample> = Vec::with_capacity(asked.alloc, room)?;
     for place in chunks {
         add_samples(asked, place, found, &mut samples)?;
     }
-    samples.retain(|sample| asked.low <= sample.time && sample.time <= asked.high);
     Ok(SampleList::from_vec(samples))
 }
 
@@ -114,7 +111,7 @@ fn add_samples(
     Ok(())
 }
 
-/// The samples of these series in the range, each under its final labels, where the chunks were
+/// The samples of these series that were read, each under its final labels, where the chunks were
 /// read each by itself.
 pub(crate) fn shown_apart(
     asked: &Asked<'_>,

@@ -7,6 +7,7 @@
 mod entries;
 mod folders;
 mod lines;
+mod messages;
 mod runs;
 mod says;
 mod setting;
@@ -17,6 +18,7 @@ mod tool;
 
 use crate::folders::{Folder, open_both, print_call, print_openings};
 use crate::lines::{Named, add_lines, repeated, script_of, wide};
+use crate::messages::print_messages;
 use crate::runs::{Shown, print_run};
 use crate::says::{cut, say};
 use crate::setting::{CALM, setting_of};
@@ -86,7 +88,7 @@ fn do_row<R: Threads + Wait + Sync, B: Bucket, F: Shelf>(
         "=" => say(rt, row),
         "folders" => print_call(threads, rt, folder, text),
         "lines" => add_lines(named, text),
-        "words" | "repeat" | "wide" | "run" | "journal" | "calls" => {
+        "words" | "repeat" | "wide" | "run" | "journal" | "calls" | "told" => {
             say(rt, row);
             print_one(rt, named.as_slice(), word, text);
         }
@@ -106,6 +108,10 @@ fn print_one(rt: &HostRuntime, named: &[Named], word: &str, text: &str) {
         "wide" => {
             let script = wide(alloc, text.parse().unwrap_or(0));
             print_run(rt, SERIAL, script, &CALM, Shown::Entries);
+        }
+        "told" => {
+            let (how, lines) = text.split_once(" / ").unwrap_or((text, ""));
+            print_messages(rt, named, how, lines);
         }
         _ => {
             let (how, lines) = text.split_once(" / ").unwrap_or((text, ""));

@@ -1,7 +1,9 @@
 //! Passes and workers that act on one world from threads of their own, and scripts whose workers do so. A row names a case and how
 //! many times it is tried; what is printed is how many times it came out as it has to. `script TIMES / LINE / LINE ..` is a script
-//! that is run by one thread, and then so many times with threads; its report was worked out apart from this program.
+//! that is run by one thread, and then so many times with threads; its report was worked out apart from this program. `counted LINE / LINE ..`
+//! prints what such runs told their gates.
 
+mod counts;
 mod gates;
 mod job;
 mod met;
@@ -13,6 +15,7 @@ mod shares;
 mod worlds;
 
 use crate::says::say;
+use crate::threads::counts::print_counted;
 use crate::threads::passes::passes_share_a_journal;
 use crate::threads::phases::{
     a_fault_stops_no_other, neighbours_meet, two_are_watched, workers_share_a_journal,
@@ -38,6 +41,10 @@ pub(crate) fn print_threads<R: Threads + Wait + Sync>(
     if name == "script" {
         say(rt, row);
         return print_script(threads, rt, rest);
+    }
+    if name == "counted" {
+        say(rt, row);
+        return print_counted(threads, rt, rest);
     }
     let times: u32 = rest.parse().unwrap_or(0);
     let mut good = 0u32;

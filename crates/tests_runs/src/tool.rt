@@ -100,7 +100,7 @@ where
             let crew = Crew { threads, gate };
             run_replay(&crew, alloc, words, site, source, out)
         }
-        _ => run_tool(alloc, words, site, source, out),
+        _ => run_tool(alloc, words, site, source, out, gate),
     };
     let Run {
         status,

@@ -1,9 +1,11 @@
 //! What standard error is told of a call.
-ghost use Rattle.std.specs.Prelude.{◌≡◌, OnOk};
+ghost use Rattle.std.specs.Prelude.{◌≡◌, ◌++◌, OnOk};
 ghost use Rattle.std.specs.Io.KnownBytes.{Appends};
 ghost use Rattle.replay_cli.specs.call_verdicts.specs.Statuses.{number_of};
 ghost use Rattle.tosraem.specs.Advice.{advice_of};
+ghost use Rattle.tosraem.specs.Said.{said_of};
 
+use crate::troubles::{Troubles, bucket_line, report_line, shelf_line};
 use replay_cli::Status;
 use std::io;
 use std::io::Write;
@@ -17,16 +19,39 @@ const USAGE: &str =
 BUCKET is the word memory, or a folder that is new or empty. SHELF is the word none, or a folder of blocks.
 ";
 
-/// Says on standard error, or to another writer, what is to be said of a call that ended with this number.
-pub(crate) fn tell<W: Write>(number: u8, errors: &mut W) -> io::Result<()>
-    ensures { (status : Status) → number ≡ number_of status
-        → OnOk result
-        (Appends (W.contents errors.old) (W.contents errors.new) (advice_of status)) }
+/// Says on standard error, or to another writer, what is to be said of a call that ended with this number, with this trouble and
+/// with these messages on its failures.
+pub(crate) fn tell<W: Write>(
+    number: u8,
+    troubles: Troubles,
+    messages: &[u8],
+    errors: &mut W,
+) -> io::Result<()>
+    ensures { (status : Status) → number ≡ number_of status → OnOk result
+        (Appends (W.contents errors.old) (W.contents errors.new)
+        (messages.now ++ said_of status troubles)) }
 {
     match Status::from_number(number) {
-        Some(status) => errors.write_all(advice(status).as_bytes()),
+        Some(status) => say(status, troubles, messages, errors),
         None => Ok(()),
     }
+}
+
+#[tactic(auto, using(crate::proofs::Saying::said_in_turn))]
+fn say<W: Write>(
+    status: Status,
+    troubles: Troubles,
+    messages: &[u8],
+    errors: &mut W,
+) -> io::Result<()>
+    ensures { OnOk result (Appends (W.contents errors.old) (W.contents errors.new)
+        (messages.now ++ said_of status troubles)) }
+{
+    errors.write_all(messages)?;
+    errors.write_all(advice(status).as_bytes())?;
+    errors.write_all(bucket_line(troubles.bucket).as_bytes())?;
+    errors.write_all(shelf_line(troubles.shelf).as_bytes())?;
+    errors.write_all(report_line(troubles.report).as_bytes())
 }
 
 /// How the program is called; or what to do about a call that wrote no report. Nothing where it wrote one.

@@ -16,25 +16,38 @@ const ROOM: usize = 30 * MEBIBYTE;
 /// A worker of so few operations needs no room, as one that uploads a block.
 const FEW: u64 = 8;
 
-/// Holds nobody up, but makes room for a worker of many operations in the area of its thread.
+/// Holds nobody up, but makes room for a worker of many operations in the area of its thread. What it is told it tells another gate.
 #[derive(Drop)]
-pub(crate) struct WithRoom {
+pub(crate) struct WithRoom<'a, G> {
     alloc: Global,
+    other: &'a G,
 }
 
-impl WithRoom {
+impl<'a, G: Gate> WithRoom<'a, G> {
     /// From now on freed memory stays with the program.
-    pub(crate) fn new(alloc: Global) -> WithRoom {
+    pub(crate) fn new(alloc: Global, other: &'a G) -> WithRoom<'a, G> {
         take_and_give_back(alloc, KEPT);
-        WithRoom { alloc }
+        WithRoom { alloc, other }
     }
 }
 
-impl Gate for WithRoom {
+impl<'a, G: Gate> Gate for WithRoom<'a, G> {
     fn before(&self, _seat: u32, number: u64) {
         if number == FEW {
             take_and_give_back(self.alloc, ROOM);
         }
+    }
+
+    fn begins(&self, place: usize, count: usize) {
+        self.other.begins(place, count);
+    }
+
+    fn moved(&self, bytes: u64) {
+        self.other.moved(bytes);
+    }
+
+    fn ends(&self) {
+        self.other.ends();
     }
 }
 

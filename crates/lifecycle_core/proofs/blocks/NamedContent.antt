@@ -1,9 +1,9 @@
 -- A block without the segments that its index does not name holds the same.
-use Rattle.std.proofs.Common.{◌≡◌, inl, inr, ℕ, ◌<◌, ◌≤◌, Bool, true, false, max, fold, List, [], ◌∷◌, map, flat_map, length, Contains, Option, Some, Ok, nat_le, sym, ◌∙◌, ap, subst, arith}
+use Rattle.std.proofs.Common.{◌≡◌, inl, inr, ℕ, ◌<◌, List, [], ◌∷◌, length, Contains, Option, Some, Ok, nat_le, sym, ◌∙◌, ap, subst, arith}
 use Rattle.std.specs.Prelude.{slice_get}
 use Rattle.std.specs.List.{AllByRecursion, AllZip}
 use Rattle.std.proofs.lemmas.Option.{slice_get_cases}
-use Rattle.base.proofs.Membership.{contains_first, contains_later, into_flat_map, into_map, member_cases, no_member}
+use Rattle.base.proofs.Membership.{contains_first, contains_later}
 use Rattle.label_sets.specs.declared.sample.Sample.{Sample}
 use Rattle.label_sets.specs.declared.series.Series.{Series}
 use Rattle.index_parts.specs.declared.chunk_place.ChunkPlace.{ChunkPlace}
@@ -15,31 +15,8 @@ use Rattle.block_content.specs.Content.{AreWithin, HoldsSeries, IsChunkOf, IsCon
 use Rattle.block_content.specs.ContentReading.{index_at}
 use Rattle.block_content.proofs.TimesAndOrder.{index_again}
 use Rattle.block_merging.specs.PutContent.{AreBytes}
-use Rattle.compactor.specs.Named.{if_few, last_named, named_by, named_segments, segment_number}
-
--- ---- the greatest of numbers
-
-pub grows : (numbers : List ℕ) (before : ℕ) → before ≤ fold max before numbers
-grows [] before = omega arith
-grows (n ∷ numbers) before = let up = grows numbers (max before n) in omega (arith, up)
-
-pub reached : (numbers : List ℕ) (before n : ℕ) → Contains numbers n → n ≤ fold max before numbers
-reached [] before n among = absurd (no_member n among)
-reached (m ∷ numbers) before n among = elim (member_cases m n numbers among) [
-  | inl same ↦ let up = grows numbers (max before m) in omega (arith, up, same)
-  | inr later ↦ reached numbers (max before m) n later
-]
-
-pub few_is : (b : Bool) (n count : ℕ) → if_few b n ≡ Some count → n ≡ count
-few_is true n count is = cc (is)
-few_is false n count is = absurd (cc (is))
-
--- each chunk of an index stands in a segment that it names
-pub chunk_named : (indexed : List IndexSeries) (one : IndexSeries) (place : ChunkPlace) → Contains indexed one → Contains one.chunks place → place.segment < last_named indexed
-chunk_named indexed one place among inside =
-    let places : List ChunkPlace = flat_map (λ (s : IndexSeries). s.chunks) indexed in
-    let up = reached (map segment_number places) 0 (segment_number place) (into_map segment_number places place (into_flat_map (λ (s : IndexSeries). s.chunks) indexed one place among inside)) in
-    omega (arith, up)
+use Rattle.compactor.specs.Named.{last_named, named_by, named_segments}
+use Rattle.compactor.proofs.LastNamed.{few_is, chunk_named}
 
 -- ---- fewer segments
 

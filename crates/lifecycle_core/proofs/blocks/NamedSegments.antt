@@ -16,7 +16,7 @@ use Rattle.index_parts.specs.declared.chunk_place.ChunkPlace.{ChunkPlace}
 use Rattle.label_sets.specs.declared.sample.Sample.{Sample}
 use Rattle.label_sets.specs.declared.series.Series.{Series}
 use Rattle.compactor.specs.Named.{if_few, last_named, named_by, named_segments, segment_number}
-use Rattle.lifecycle_core.proofs.blocks.NamedContent.{few_is}
+use Rattle.compactor.proofs.LastNamed.{few_is}
 
 chunks_within : (segments : List (List ℕ)) (chunks : List ChunkPlace) (parts : List (List Sample)) → AllZip (IsChunkOf segments) chunks parts → (before : ℕ) → before ≤ length segments → fold max before (map segment_number chunks) ≤ length segments
 chunks_within segments [] [] all before low = low

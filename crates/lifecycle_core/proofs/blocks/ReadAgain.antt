@@ -17,7 +17,7 @@ use Rattle.index_parts.specs.declared.chunk_place.ChunkPlace.{ChunkPlace}
 use Rattle.label_sets.specs.declared.sample.Sample.{Sample}
 use Rattle.label_sets.specs.declared.series.Series.{Series}
 use Rattle.compactor.specs.Named.{last_named, named_by, named_segments}
-use Rattle.lifecycle_core.proofs.blocks.NamedContent.{few_is, chunk_named}
+use Rattle.compactor.proofs.LastNamed.{few_is, chunk_named}
 
 -- ---- the segments that an index names
 

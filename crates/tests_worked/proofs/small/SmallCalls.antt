@@ -30,7 +30,7 @@ use Rattle.base.specs.Firsts.{each_at}
 use Rattle.store_chunks.specs.Taken.{shown}
 use Rattle.store_calls.specs.BlockReads.{gives, block_call}
 use Rattle.store_ranges.specs.ChunkRanges.{IsSetOf, group_of}
-use Rattle.store_chunks.specs.ChunkReads.{chunk_len_at, chunk_samples_at, glimpse_at, read, shows, stored_at, tests_at}
+use Rattle.store_chunks.specs.ChunkReads.{chunk_len_at, chunk_samples_at, glimpse_at, read, shows, stored_at, tested_at, tests_at}
 use Rattle.store_ranges.specs.IndexRanges.{end_of}
 use Rattle.store_ranges.specs.Reads.{Block, Cache, Query, kept, range_of, used as used_range}
 use Rattle.store_calls.proofs.SmallReads.{one_number, one_stretch, only, piece}
@@ -175,10 +175,6 @@ chunk_long : chunk_len_at files.chunk 0 ≡ Ok 18
 unfolding files.chunk files.content chunk_len_at uvarint_at groups_of
 chunk_long = refl
 
-group_read : each_at (glimpse_at (tests_at block (place ∷ [])) (group_of (only 8)) files.chunk) (8 ∷ []) ≡ Ok (shows files.up.samples ∷ [])
-unfolding each_at glimpse_at chunk_samples_at stored_at
-group_read = rw (chunk_long, chunk_read, content_read) refl
-
 -- the ranges that the reads leave in the cache
 abbrev with_range : ℕ → ℕ → List ℕ → Cache → Cache
 with_range from len bytes cache = kept (range_of (key.Index small.a) (piece from len)) bytes cache
@@ -204,9 +200,13 @@ module _ (selector : List Matcher) (high : ℤ) (begins : int_le (pos 1000) high
   abbrev query : Query
   query = asking selector [] (pos 0) high
 
+  group_read : each_at (glimpse_at (tests_at query block (place ∷ [])) (group_of (only 8)) files.chunk) (8 ∷ []) ≡ Ok (shows files.up.samples ∷ [])
+  unfolding each_at glimpse_at chunk_samples_at tested_at stored_at
+  group_read = rw (chunk_long, chunk_read, content_read, lasts) refl
+
   triples_are : flat_map (shown query block (read 8 files.up.samples ∷ [])) (listed ∷ []) ≡ small.triple ∷ []
   unfolding shown triples_under final_of without is_among in_order placed
-  triples_are = rw (begins, lasts) refl
+  triples_are = rw begins refl
 
   block_run : (seq seat moment : ℕ) → Runs (block_call query block empty_cache) (runs.query seq seat moment) (Some (gives (small.triple ∷ []) left))
   unfolding end_of

@@ -8,12 +8,12 @@ loop-place-init c = ascend_in c.args.indexed.now c.loop-one.one-index c.one-item
 pub loop-place-preserved : goal.loop-place-preserved
 loop-place-preserved c =
     ascend_step c.args.indexed.now c.loop-one.one-index c.chunks-place-items.result.now c.loop-place.before c.loop-place.place-index c.place_number-number.result _ _ c.comes_behind.result
-    c.loop-place.invariant c.loop-place-test.true refl c.place_number-number.ensures c.comes_behind.ensures c.if-not-comes_behind.false
+    c.loop-place.invariant c.loop-place-test.true refl c.place_number-number.ensures.number c.comes_behind.ensures c.if-not-comes_behind.false
 
 pub returns-then-not-comes_behind : goal.returns-then-not-comes_behind
 returns-then-not-comes_behind c =
     ascend_stop c.args.indexed.now c.loop-one.one-index c.chunks-place-items.result.now c.loop-place.before c.loop-place.place-index c.place_number-number.result _ _ c.comes_behind.result
-    c.loop-place.invariant c.loop-place-test.true refl c.place_number-number.ensures c.comes_behind.ensures c.if-not-comes_behind.true
+    c.loop-place.invariant c.loop-place-test.true refl c.place_number-number.ensures.number c.comes_behind.ensures c.if-not-comes_behind.true
 
 pub loop-one-preserved : goal.loop-one-preserved
 loop-one-preserved c = ascend_out c.args.indexed.now c.loop-one.one-index c.chunks-place-items.result.now c.loop-place.before c.loop-place.place-index c.loop-place.invariant (omega arith)

@@ -19,7 +19,7 @@ returns-in_err-index-clause-loaded g c = λ told h. stops parts_of (load_at told
 
 pub returns-in_err-segments-clause-loaded : goal.returns-in_err-segments-clause-loaded
 returns-in_err-segments-clause-loaded g c = λ told h. stops parts_of (load_at told c.args.ulid) c.from_residual-in_err-segments.result c.in_err-segments.field-0.0 c.from_residual-in_err-segments.ensures.1
-    (stops_first (segments_at told c.args.ulid 1 c.in_ok-index.last) (load_at told c.args.ulid) c.in_err-segments.field-0.0
+    (stops_first (segments_at told c.args.ulid 1 0 c.in_ok-index.last) (load_at told c.args.ulid) c.in_err-segments.field-0.0
     (without_segment told c.args.ulid (fields_of c.in_ok-meta.meta) (c.in_ok-meta.ensures.read told h) c.in_ok-index.index c.in_ok-index.ensures.named.0 (c.in_ok-index.ensures.read told (c.in_ok-meta.ensures.kept.same ∙ h) c.in_ok-index.ensures.named.0 c.in_ok-index.ensures.named.1) c.in_ok-index.last c.in_ok-index.ensures.named.2 c.in_err-segments.field-0.0)
     (c.in_err-segments.ensures.read told (c.in_ok-index.ensures.kept.same ∙ (c.in_ok-meta.ensures.kept.same ∙ h))))
 
@@ -47,7 +47,7 @@ returns-clause-asks g c = asked_segments g.F.Shelf.told _ c.args.ulid _ _ _ (fil
     (λ off. absurd (answered c.in_ok-segments.segments (inr off))) (ap (λ (n : ℕ). 2 + n) (c.in_ok-segments.ensures.asks.whole ∙ sym c.in_ok-segments.ensures.many)) (λ said. tt) (λ fault. fault)
 
 pub returns-clause-within : goal.returns-clause-within
-returns-clause-within g c = record { meta_is = c.in_ok-meta.ensures.within; index_is = c.in_ok-index.ensures.within; segments_are = c.in_ok-segments.ensures.within }
+returns-clause-within g c = record { meta_is = c.in_ok-meta.ensures.within; index_is = c.in_ok-index.ensures.within; segments_are = c.in_ok-segments.ensures.within; together = c.in_ok-segments.ensures.together }
 
 pub returns-clause-named : goal.returns-clause-named
 returns-clause-named g c = (c.in_ok-index.ensures.named.0, c.in_ok-index.ensures.named.1, c.in_ok-segments.ensures.many ∙ c.in_ok-index.ensures.named.2)

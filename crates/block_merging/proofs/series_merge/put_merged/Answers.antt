@@ -25,4 +25,4 @@ put_parts-requires-clause-after c =
 pub returns : goal.returns
 returns c =
     merged_told c.put_parts.result c.args.writer.now c.put_parts.new.writer c.args.labels.now c.args.run.now c.in_ok-samples.samples.items c.members.result.now c.in_ok-kept.kept c.requires.many c.requires.stored c.in_ok-samples.ensures c.in_ok-kept.ensures
-    c.members.ensures c.put_parts.ensures
+    c.members.ensures c.put_parts.ensures.ok

@@ -13,12 +13,12 @@ put_parts-requires-clause-after c = begin_after c.args.writer.now.chunks c.membe
 
 pub series-requires-clause-some : goal.series-requires-clause-some
 series-requires-clause-some c empty =
-    have_chunks c.args.writer.now c.members.result.now c.put_parts.new.writer c.in_ok-put_parts.ensures c.requires.nothing_left (subst (λ (l : List Sample). 0 < length l) (sym c.members.ensures) c.requires.samples.some) empty
+    have_chunks c.args.writer.now c.members.result.now c.put_parts.new.writer c.in_ok-put_parts.ensures.ok c.requires.nothing_left (subst (λ (l : List Sample). 0 < length l) (sym c.members.ensures) c.requires.samples.some) empty
 
 pub series-requires-clause-greater : goal.series-requires-clause-greater
 series-requires-clause-greater c =
-    subst (IsAfterSeries c.put_parts.new.writer.series) (sym c.in_ok-copy.ensures) (subst (λ (l : List PutSeries). IsAfterSeries l c.args.series.now.labels) (sym c.in_ok-put_parts.ensures.series_are) c.requires.greater)
+    subst (IsAfterSeries c.put_parts.new.writer.series) (sym c.in_ok-copy.ensures) (subst (λ (l : List PutSeries). IsAfterSeries l c.args.series.now.labels) (sym c.in_ok-put_parts.ensures.ok.series_are) c.requires.greater)
 
 pub returns : goal.returns
 returns c =
-    series_more c.series.result c.args.writer.now c.put_parts.new.writer c.series.new.self c.args.series.now c.members.result.now _ c.members.ensures c.in_ok-copy.ensures c.requires.nothing_left c.in_ok-put_parts.ensures c.series.ensures.ok
+    series_more c.series.result c.args.writer.now c.put_parts.new.writer c.series.new.self c.args.series.now c.members.result.now _ c.members.ensures c.in_ok-copy.ensures c.requires.nothing_left c.in_ok-put_parts.ensures.ok c.series.ensures.ok

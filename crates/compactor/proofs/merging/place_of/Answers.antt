@@ -4,8 +4,8 @@ use Rattle.index_parts.specs.declared.chunk_place.ChunkPlace.{ChunkPlace}
 use Rattle.compactor.proofs.Refusing.{series_there, chunk_there, place_is}
 use Rattle.compactor.proofs.merging.place_of.Goals as goal
 
-pub returns : goal.returns
-returns c =
+pub returns-clause-place : goal.returns-clause-place
+returns-clause-place c =
     place_is c.args.index.now c.in_ok-indexed.ensures.bytes c.in_ok-indexed.indexed c.args.series c.args.chunk c.in-Some.one.now c.in-Some-member_at.place c.in_ok-indexed.ensures.read
     (omega (arith, c.if-series-eq4294967295.false, c.ranges.series.fits)) (omega (arith, c.if-chunk-eq4294967295.false, c.ranges.chunk.fits)) (sym c.in-Some.ensures) (ap (λ (l : List ChunkPlace). slice_get l c.args.chunk) (sym c.chunks.ensures) ∙ sym c.in-Some-member_at.ensures)
 

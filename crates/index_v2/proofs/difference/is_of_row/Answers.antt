@@ -1,4 +1,4 @@
-use Rattle.std.proofs.Common.{◌∙◌, Ok, Err, arith}
+use Rattle.std.proofs.Common.{Ok, Err}
 use Rattle.index_v2.proofs.Differences.{tells_place, of_no_row}
 use Rattle.index_v2.proofs.RankedGaps.{ranked_of_row}
 use Rattle.index_v2.proofs.difference.is_of_row.Goals as goal

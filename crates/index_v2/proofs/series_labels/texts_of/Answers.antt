@@ -1,4 +1,4 @@
-use Rattle.std.proofs.Common.{refl, ◌∙◌, map, ap, subst}
+use Rattle.std.proofs.Common.{refl, ◌∙◌, map, ap}
 use Rattle.std.proofs.lemmas.List.{map_push}
 use Rattle.index_v2.specs.LentLabels.{as_label}
 use Rattle.index_v2.proofs.LabelReading.{gives_err, gives_answered}

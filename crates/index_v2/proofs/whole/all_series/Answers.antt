@@ -1,6 +1,7 @@
 use Rattle.std.proofs.Common.{refl, arith, subst, sym}
 use Rattle.index_v2.specs.Ranks.{AreRanked}
 use Rattle.index_v2.proofs.LabelRanks.{no_series_ranked, one_more_ranked}
+use Rattle.index_v2.proofs.ListsFew.{labels_few}
 use Rattle.index_v2.proofs.WholeLoops.{series_begin, series_step, series_stop, series_end, gives_stop}
 use Rattle.index_v2.proofs.whole.all_series.Goals as goal
 
@@ -34,3 +35,6 @@ returns-clause-as_many c = let m = c.loop-number.invariant.0.many in omega arith
 
 pub returns-clause-ranked : goal.returns-clause-ranked
 returns-clause-ranked c = c.loop-number.invariant.1
+
+pub returns-clause-few : goal.returns-clause-few
+returns-clause-few c = labels_few _ _ _ _ (λ i. (c.type_inv.index i).fits) (series_end _ _ _ _ _ _ c.loop-number.invariant.0 (omega arith))

@@ -25,24 +25,28 @@ run_phases-came-requires-clause-workers g c = no_seats (setting_by c.args.script
 
 pub run_phases-came-requires-clause-reached : goal.run_phases-came-requires-clause-reached
 run_phases-came-requires-clause-reached g c =
-    reached_none g.R.Report.tells (setting_by c.args.script.now c.lend-means.result.shelf) c.in-Ok-new.progress.gateways.items c.new-hand.result.world.journal c.in-Ok-new.progress.report c.in-Ok-new.ensures.unseen (ap (λ w. w.journal) c.new-hand.ensures.world ∙ c.requires.fresh) c.in-Ok-new.ensures.empty
+    reached_none g.R.Report.tells (setting_by c.args.script.now c.lend-means.result.shelf) c.in-Ok-new.progress.gateways.items c.new-gated.result.world.journal c.in-Ok-new.progress.report c.in-Ok-new.ensures.unseen
+    (ap (λ h. h.world.journal) c.new-gated.ensures ∙ ap (λ w. w.journal) c.new-hand.ensures.world ∙ c.requires.fresh) c.in-Ok-new.ensures.empty
 
 pub returns-clause-came : goal.returns-clause-came
 returns-clause-came g c = (
   c.run_phases-came.new.progress.gateways.items,
-  rw c.into_report.ensures (subst (λ (s : List ShelfBlock). RunCame g.R.Report.tells (setting_by c.args.script.now s) c.run_phases-came.new.progress.gateways.items c.run_phases-came.new.hand.world.journal c.run_phases-came.new.progress.report c.run_phases-came.result) c.lend-means.ensures.shelf c.run_phases-came.ensures.came),
+  rw c.into_hand.ensures (rw c.into_report.ensures (subst (λ (s : List ShelfBlock). RunCame g.R.Report.tells (setting_by c.args.script.now s) c.run_phases-came.new.progress.gateways.items c.run_phases-came.new.hand.world.journal c.run_phases-came.new.progress.report c.run_phases-came.result) c.lend-means.ensures.shelf c.run_phases-came.ensures.came)),
 )
 
 pub returns-clause-keeps : goal.returns-clause-keeps
-returns-clause-keeps g c =
-    kept_since g.B.Bucket.told c.args.world c.new-hand.result.world c.new-hand.result.opened.value c.run_phases-came.new.hand.opened.value c.new-hand.result.wanted c.run_phases-came.new.hand.wanted c.run_phases-came.new.hand.world
-    c.new-hand.ensures.world c.new-hand.ensures.opened c.new-hand.ensures.wanted c.run_phases-came.ensures.hand.kept
+returns-clause-keeps g c = rw c.into_hand.ensures
+    (kept_since g.B.Bucket.told c.args.world c.new-gated.result.world c.new-gated.result.opened.value c.run_phases-came.new.hand.opened.value c.new-gated.result.wanted c.run_phases-came.new.hand.wanted c.run_phases-came.new.hand.world
+    (ap (λ h. h.world) c.new-gated.ensures ∙ c.new-hand.ensures.world) (ap (λ h. h.opened.value) c.new-gated.ensures ∙ c.new-hand.ensures.opened) (ap (λ h. h.wanted) c.new-gated.ensures ∙ c.new-hand.ensures.wanted) c.run_phases-came.ensures.hand.kept)
 
 pub returns-clause-full : goal.returns-clause-full
-returns-clause-full g c = λ is. c.run_phases-came.ensures.hand.is_full (ap is_full_came is)
+returns-clause-full g c = λ is. rw c.into_hand.ensures (c.run_phases-came.ensures.hand.is_full (ap is_full_came is))
 
 pub returns-clause-refused : goal.returns-clause-refused
-returns-clause-refused g c = c.run_phases-came.ensures.hand.was_refused ∙ ap (λ b. b || is_full_came c.run_phases-came.result) c.new-hand.ensures.refused
+returns-clause-refused g c =
+    ap (λ h. h.refused) c.into_hand.ensures ∙ c.run_phases-came.ensures.hand.was_refused
+    ∙ ap (λ b. b || is_full_came c.run_phases-came.result) (ap (λ h. h.refused) c.new-gated.ensures ∙ c.new-hand.ensures.refused)
 
 pub returns-clause-wanted : goal.returns-clause-wanted
-returns-clause-wanted g c = wanted_by c.new-hand.result.wanted c.run_phases-came.new.hand.wanted c.run_phases-came.result c.new-hand.ensures.wanted c.run_phases-came.ensures.hand.was_wanted
+returns-clause-wanted g c = rw c.into_hand.ensures
+    (wanted_by c.new-gated.result.wanted c.run_phases-came.new.hand.wanted c.run_phases-came.result (ap (λ h. h.wanted) c.new-gated.ensures ∙ c.new-hand.ensures.wanted) c.run_phases-came.ensures.hand.was_wanted)

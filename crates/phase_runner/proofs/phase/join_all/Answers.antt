@@ -49,7 +49,7 @@ join_pass-root-requires-clause-worker g c =
     let i = c.loop-work.invariant.0 in
     let left = subst (λ l. AreEnded g.J.Job.may (record { full = g.J.Job.met_full; wanted = g.J.Job.wanted }) c.args.shared.now.table.shared.table_id (view_of c.args.first.now.value) ((c.args.first.now.value.splits + 1) + length i.done) i.rest (map (λ w. (w.pass, w.end)) l)) is i.left in
     let o = opened g.J.Job.may (record { full = g.J.Job.met_full; wanted = g.J.Job.wanted }) c.args.shared.now.table.shared.table_id (view_of c.args.first.now.value) ((c.args.first.now.value.splits + 1) + length i.done) i.rest w.pass w.end (map (λ w. (w.pass, w.end)) later) left in
-    subst (IsThere c.args.shared.now.table.shared.table_id) (sym o.pass_is ∙ c.parts-pass.ensures.0) o.ended.table_is
+    subst (IsThere c.args.shared.now.table.shared.table_id) (sym o.pass_is ∙ c.parts-pass.ensures.0) o.table_is
 
 pub loop-work-preserved : goal.loop-work-preserved
 loop-work-preserved g c =

@@ -5,6 +5,8 @@ use Rattle.std.proofs.lemmas.Int.{to_z-of_z}
 use Rattle.querier.specs.declared.asking.Ask.{Ask}
 use Rattle.script_core.specs.Lawful.{IsLawfulWork}
 use Rattle.script_workers.specs.declared.work.Work.{Work}
+use Rattle.lifecycle_core.specs.Tasks.{TaskRun}
+use Rattle.script_running.specs.Outcomes.{IsPart}
 use Rattle.script_running.specs.Lending.{setting_in}
 use Rattle.script_running.specs.Shelves.{Knows}
 use Rattle.script_running.specs.Tasks.{HasDone}
@@ -63,7 +65,7 @@ returns-in-Some-clause-done g c = λ who place held by sees.
     let done =
     asked_done setting who place held (g.H.Hand.told c.args.hand.now).seat (g.H.Hand.told c.args.hand.now).entries (g.H.Hand.told c.ask_view.new.hand).entries c.ask_view.result c.ask_view.new.sight low high c.in-Query.selector c.args.gateway c.in-Some.ask s.0
     by asked s.1 (c.ask_view.ensures.asked held s.0 sees s.1) in
-    subst (λ (w : Work). HasDone setting who place w held (g.H.Hand.told c.args.hand.now).seat (g.H.Hand.told c.args.hand.now).entries (g.H.Hand.told c.ask_view.new.hand).entries c.ask_view.new.sight c.ask_view.result) (sym c.in-Query.is) done
+    subst (λ (w : Work). HasDone (TaskRun setting who place w held) (IsPart w) (g.H.Hand.told c.args.hand.now).seat (g.H.Hand.told c.args.hand.now).entries (g.H.Hand.told c.ask_view.new.hand).entries c.ask_view.new.sight c.ask_view.result) (sym c.in-Query.is) done
 
 pub ask_view-requires-clause-fits : goal.ask_view-requires-clause-fits
 ask_view-requires-clause-fits g c = subst (λ (o : Option Ask). IfSome o (λ (a : Ask). FitsSigned w64 a.low × FitsSigned w64 a.high)) c.in-Some.is c.in-Ok.ensures.fits
@@ -80,7 +82,7 @@ returns-in-None-clause-done g c = λ who place held by sees.
     let done =
     unasked_done setting who place held (g.H.Hand.told c.args.hand.now).seat (g.H.Hand.told c.args.hand.now).entries c.args.sight.now low high c.in-Query.selector c.args.gateway by
     (asked_where setting c.args.gateway _ low _ high c.in-Ok.asked _ from upto c.in-Ok.ensures.asked c.in-None.is) sees in
-    subst (λ (w : Work). HasDone setting who place w held (g.H.Hand.told c.args.hand.now).seat (g.H.Hand.told c.args.hand.now).entries (g.H.Hand.told c.args.hand.now).entries c.args.sight.now (Ok (part.Query given.NotAsked))) (sym c.in-Query.is) done
+    subst (λ (w : Work). HasDone (TaskRun setting who place w held) (IsPart w) (g.H.Hand.told c.args.hand.now).seat (g.H.Hand.told c.args.hand.now).entries (g.H.Hand.told c.args.hand.now).entries c.args.sight.now (Ok (part.Query given.NotAsked))) (sym c.in-Query.is) done
 
 pub returns-in_default-clause-done : goal.returns-in_default-clause-done
 returns-in_default-clause-done g c = λ who place held by sees.
@@ -88,7 +90,7 @@ returns-in_default-clause-done g c = λ who place held by sees.
     let script = setting.script in
     let lawful = subst (λ (w : Work). IsLawfulWork script.gateways script.blocks (length script.selectors) w) c.in-Query.is c.requires in
     let s = slice_get-below script.selectors c.in-Query.selector lawful.3 in
-    subst (λ (w : Work). HasDone setting who place w held (g.H.Hand.told c.args.hand.now).seat (g.H.Hand.told c.args.hand.now).entries (g.H.Hand.told c.args.hand.now).entries c.args.sight.now (Err broken.NoMemory)) (sym c.in-Query.is)
+    subst (λ (w : Work). HasDone (TaskRun setting who place w held) (IsPart w) (g.H.Hand.told c.args.hand.now).seat (g.H.Hand.told c.args.hand.now).entries (g.H.Hand.told c.args.hand.now).entries c.args.sight.now (Err broken.NoMemory)) (sym c.in-Query.is)
     (short_done setting who place held (g.H.Hand.told c.args.hand.now).seat (g.H.Hand.told c.args.hand.now).entries c.args.sight.now c.in-Query.low c.in-Query.high c.in-Query.selector s.0 s.1)
 
 pub returns-in-None-clause-hand : goal.returns-in-None-clause-hand

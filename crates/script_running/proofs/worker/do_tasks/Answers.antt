@@ -1,4 +1,4 @@
-use Rattle.std.proofs.Common.{false, ◌+◌, ◌<◌, ◌∷◌, [], length, length-append, refl, ap, ◌∙◌, arith}
+use Rattle.std.proofs.Common.{false, ◌+◌, ◌<◌, ◌∷◌, [], get_or, length, length-append, refl, ap, ◌∙◌, arith}
 use Rattle.std.proofs.lemmas.List.{take_all}
 use Rattle.script_running.specs.Lending.{setting_in}
 use Rattle.script_running.specs.Tasks.{is_full_came}
@@ -26,7 +26,7 @@ returns-in-Err-clause-worked g c = λ who held by sees.
     let below : c.loop-number.number < length c.args.places.now = omega (arith, c.loop-number-test.true) in
     step_broken (setting_in c.args.means.now) c.args.tasks.now who c.args.places.now held (g.H.Hand.told c.args.hand.now).seat (g.H.Hand.told c.loop-number.hand).seat (g.H.Hand.told c.args.hand.now).entries (g.H.Hand.told c.loop-number.hand).entries (g.H.Hand.told c.run_task.new.hand).entries
     c.loop-number.sight c.run_task.new.sight c.loop-number.parts.items c.loop-number.number _ c.index-tasks-places.result below (get_or-any c.args.places.now c.loop-number.number 0 _ below) c.requires.places c.index-tasks-places.is c.loop-number.invariant.turned.same_seat
-    (c.loop-number.invariant.worked who held by sees) c.in-Err.broken c.run_task.result _ c.requires.lawful c.requires.tasks c.in-Err.is refl refl (λ h s. c.run_task.ensures.done who _ h by s)
+    (c.loop-number.invariant.worked who held by sees) c.in-Err.broken c.run_task.result _ c.requires.lawful c.requires.tasks c.in-Err.is refl refl (λ h s. c.run_task.ensures.done who (get_or c.args.places.now c.loop-number.number 0) h by s)
 
 pub loop-number-preserved : goal.loop-number-preserved
 loop-number-preserved g c =
@@ -35,7 +35,7 @@ loop-number-preserved g c =
       worked = λ who held by sees.
           step_worked (setting_in c.args.means.now) c.args.tasks.now who c.args.places.now held (g.H.Hand.told c.args.hand.now).seat (g.H.Hand.told c.loop-number.hand).seat (g.H.Hand.told c.args.hand.now).entries (g.H.Hand.told c.loop-number.hand).entries (g.H.Hand.told c.run_task.new.hand).entries
           c.loop-number.sight c.run_task.new.sight c.loop-number.parts.items c.loop-number.number _ c.index-tasks-places.result below (get_or-any c.args.places.now c.loop-number.number 0 _ below) c.requires.places c.index-tasks-places.is c.loop-number.invariant.turned.same_seat
-          (c.loop-number.invariant.worked who held by sees) c.push_reserved.new.self.items c.in-Ok-run_task.part c.run_task.result c.in-Ok-run_task.is c.push_reserved.ensures.items (λ h s. c.run_task.ensures.done who _ h by s);
+          (c.loop-number.invariant.worked who held by sees) c.push_reserved.new.self.items c.in-Ok-run_task.part c.run_task.result c.in-Ok-run_task.is c.push_reserved.ensures.items (λ h s. c.run_task.ensures.done who (get_or c.args.places.now c.loop-number.number 0) h by s);
       turned = more_turned g.H.Hand.told g.H.Hand.keeps g.met.H.Hand.keeps_more _ _ _ false false c.loop-number.invariant.turned
           (done_left g.H.Hand.told g.H.Hand.keeps _ _ c.run_task.result c.in-Ok-run_task.part c.in-Ok-run_task.is c.run_task.ensures.hand);
       count = ap length c.push_reserved.ensures.items ∙ length-append c.loop-number.parts.items (c.in-Ok-run_task.part ∷ []) ∙ ap (λ n. n + 1) c.loop-number.invariant.count;

@@ -1,7 +1,7 @@
 use Rattle.std.proofs.Common.{◌∙◌, sym, ap, arith}
 use Rattle.std.proofs.lemmas.List.{nil_from_length}
 use Rattle.store_chunks.specs.ChunksRead.{reads_of}
-use Rattle.store_chunks.proofs.Rows.{row_begins, last_taken}
+use Rattle.store_chunks.proofs.Rows.{row_begins, last_taken, last_put_back}
 use Rattle.store_chunks.proofs.chunk_rows.row_for.Goals as goal
 
 pub returns-in_default : goal.returns-in_default
@@ -13,4 +13,4 @@ pub returns-then-reference-last : goal.returns-then-reference-last
 returns-then-reference-last c = last_taken c.args.rows.now.items c.pop.new.self.items c.in-Some.last c.in-Some.ensures.items
 
 pub returns : goal.returns
-returns c = row_begins c.args.rows.now.items c.push.new.self.items c.new_row-2.result (ap reads_of (c.in-Some.ensures.items ∙ sym c.in_ok-push.ensures.items)) c.new_row-2.ensures
+returns c = row_begins c.args.rows.now.items c.push.new.self.items c.new_row-2.result (last_put_back c.args.rows.now.items c.pop.new.self.items c.push.new.self.items c.in-Some.last c.without_room.result c.in-Some.ensures.items c.without_room.ensures c.in_ok-push.ensures.items) c.new_row-2.ensures

@@ -1,7 +1,5 @@
 use Rattle.std.proofs.Common.{◌∙◌, List, ap, filter}
 use Rattle.std.specs.List.{flat_map}
-use Rattle.label_sets.specs.declared.sample.Sample.{Sample}
-use Rattle.matchers.specs.Selected.{is_between}
 use Rattle.index_parts.specs.declared.chunk_place.ChunkPlace.{ChunkPlace}
 use Rattle.store_ranges.specs.ChunkRanges.{meets}
 use Rattle.store_chunks.specs.Taken.{samples_of}
@@ -12,5 +10,4 @@ use Rattle.store_chunks.proofs.shown.shown.Goals as goal
 
 pub returns : goal.returns
 returns c = λ up. shown_is (query_asked c.args.asked.now) (block_asked c.args.asked.now) (reads_apart c.args.found.now) c.args.series.now _ _ c.in_ok-labels.ensures
-    (c.in_ok-samples.ensures up ∙ ap (λ (l : List ChunkPlace). filter (λ (s : Sample). is_between c.args.asked.now.low c.args.asked.now.high s.time)
-    (flat_map (samples_of (reads_apart c.args.found.now)) (filter (meets c.args.asked.now.low c.args.asked.now.high) l))) c.members.ensures)
+    (c.in_ok-samples.ensures up ∙ ap (λ (l : List ChunkPlace). flat_map (samples_of (reads_apart c.args.found.now)) (filter (meets c.args.asked.now.low c.args.asked.now.high) l)) c.members.ensures)

@@ -1,7 +1,13 @@
 use Rattle.std.proofs.Common.{refl}
 use Rattle.world_core.specs.Operations.{entry_of}
+use Rattle.compactor.specs.Named.{named_segments}
+use Rattle.compactor.proofs.ReadRooms.{one_came}
 use Rattle.compactor.proofs.ReadSteps.{segment_came}
 use Rattle.compactor.proofs.reads.Reads.after_segment.Goals as goal
+
+pub next_segment-requires-clause-named : goal.next_segment-requires-clause-named
+next_segment-requires-clause-named c =
+    one_came (named_segments c.args.input.index.bytes) c.args.input.segments c.push.new.self _ c.args.more c.in_ok-push-in-Found.ensures.ok c.requires.named
 
 pub returns-in_ok-push-in-Found-clause-leads : goal.returns-in_ok-push-in-Found-clause-leads
 returns-in_ok-push-in-Found-clause-leads c = λ seat op.

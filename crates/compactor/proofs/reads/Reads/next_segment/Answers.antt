@@ -6,8 +6,9 @@ use Rattle.world_core.specs.Leads.{LeadsBy}
 use Rattle.compactor.specs.Reading.{blocks_of}
 use Rattle.compactor.specs.ReadStates.{segments_of, left_at, left_of, asked_at, asked_read}
 use Rattle.compactor.specs.declared.reads.ReadStage.{ReadStage}
+use Rattle.compactor.specs.Named.{named_segments}
 use Rattle.compactor.specs.ReadRoom.{others_of}
-use Rattle.compactor.proofs.ReadRooms.{pushed_few, pushed_many}
+use Rattle.compactor.proofs.ReadRooms.{none_waits, next_waits, pushed_named, pushed_many}
 use Rattle.world_core.proofs.LeadSteps.{falls_more}
 use Rattle.compactor.proofs.reads.Reads.next_segment.Goals as goal
 
@@ -35,6 +36,8 @@ returns-in_ok-push-clause-falls c = falls_more _ _ c.next_block.result _ (omega 
 pub invariant_of-self-else-more-gt0 : goal.invariant_of-self-else-more-gt0
 invariant_of-self-else-more-gt0 c = record {
   room = c.args.self.now.room;
-  few = pushed_few c.push.result c.args.self.now.inputs c.push.new.self c.args.input 999_999 c.push.ensures.ok c.push.ensures.err c.args.self.now.few (omega (arith, c.requires.room));
+  named = pushed_named c.push.result c.args.self.now.inputs c.push.new.self c.args.input c.push.ensures.ok c.push.ensures.err c.args.self.now.named
+      (none_waits (named_segments c.args.input.index.bytes) (length c.args.input.segments) c.args.more (omega (arith, c.if-more-gt0.false)) c.requires.named);
+  names = c.args.self.now.names;
   many = pushed_many c.push.result c.args.self.now.inputs c.push.new.self c.args.input (others_of c.args.self.now.stage) (length c.args.self.now.waiting.items) c.push.ensures.ok c.push.ensures.err c.args.self.now.many;
 }

@@ -2,9 +2,10 @@ use Rattle.std.proofs.Common.{◌≡◌, ◌++◌, ◌<◌, ℕ, List, length, s
 use Rattle.std.specs.List.{All}
 use Rattle.world_core.specs.declared.entry.Entry.{Entry}
 use Rattle.script_workers.specs.declared.task.Task.{Task}
+use Rattle.lifecycle_core.specs.Conducts.{TasksAt}
 use Rattle.script_running.specs.Lending.{setting_in}
 use Rattle.script_running.specs.Tasks.{is_full_came}
-use Rattle.script_running.specs.Workers.{HasWorked, MayWork, Post}
+use Rattle.script_running.specs.Workers.{HasWorked, MayWork, Post, OwnRun}
 use Rattle.script_running.proofs.JobSteps.{allows_all, may_work}
 use Rattle.script_running.proofs.worker.WorkerJobJob.run.Goals as goal
 
@@ -29,8 +30,8 @@ returns-clause-run g c =
     (may_work (record { loan = i.means.now; phase = i.phase; worker = i.worker; sight = i.sight }) a.phase a.at
     (g.H.Hand.told c.args.hand.now).seat (g.H.Hand.told c.args.hand.now).entries (g.H.Hand.told c.do_tasks.new.hand).entries (g.H.Hand.told c.do_tasks.new.hand).front c.do_tasks.result
     (λ who held by sees.
-    subst (λ (ts : List Task). HasWorked (setting_in i.means.now) ts who i.worker.tasks held (g.H.Hand.told c.args.hand.now).seat (g.H.Hand.told c.args.hand.now).entries (g.H.Hand.told c.do_tasks.new.hand).entries c.do_tasks.result) a.own
-    (subst (λ (ps : List ℕ). HasWorked (setting_in i.means.now) i.tasks.now who ps held (g.H.Hand.told c.args.hand.now).seat (g.H.Hand.told c.args.hand.now).entries (g.H.Hand.told c.do_tasks.new.hand).entries c.do_tasks.result) c.members-places.ensures
+    subst (λ (ts : List Task). HasWorked (TasksAt ts i.worker.tasks) (OwnRun (setting_in i.means.now) who held) (g.H.Hand.told c.args.hand.now).seat (g.H.Hand.told c.args.hand.now).entries (g.H.Hand.told c.do_tasks.new.hand).entries c.do_tasks.result) a.own
+    (subst (λ (ps : List ℕ). HasWorked (TasksAt i.tasks.now ps) (OwnRun (setting_in i.means.now) who held) (g.H.Hand.told c.args.hand.now).seat (g.H.Hand.told c.args.hand.now).entries (g.H.Hand.told c.do_tasks.new.hand).entries c.do_tasks.result) c.members-places.ensures
     (c.do_tasks.ensures.worked who held by sees)))
     (λ is. c.do_tasks.ensures.hand.is_full (ap is_full_came is)))
 

@@ -1,0 +1,10 @@
+pub mod Breaches
+pub mod Calls
+pub mod Dates
+pub mod Findings
+pub mod Messages
+pub mod RuleConflicts
+pub mod ScriptFindings
+pub mod ScriptLines
+pub mod Sentences
+pub mod Told
