@@ -1,4 +1,4 @@
--- How far a record's entries are runs of its script, phase by phase.
+-- How far entries are runs of a script, taken at their word, phase by phase: what the lemmas on told journals speak of, and no law yet.
 use Rattle.std.specs.Prelude.{◌≡◌, ◌⊎◌, ◌≤◌, ◌-◌, ℕ, List, ◌++◌, length, take, drop, slice_get, Some}
 use Rattle.world_core.specs.declared.entry.Entry.{Entry}
 use Rattle.script_workers.specs.declared.phase.Phase.{Phase}
