@@ -226,11 +226,11 @@ module _ (setting : Setting) (number : ℕ) (phase : Phase) (taken : ℕ)
           h,
           contained hs h (for_does gateways h place task.work (for_hand w h of.1 of.2 inside)),
           sym (ap turn_by own),
-          came.end,
+          (came.end,
           one.0,
           one.1,
           record { worker = (c.one).worker; own = (c.one).ends; among = made_among made c.one c.among; is = ap (λ (v : Worker). v.gateway) c.is ∙ own; came = came.among },
-          subst (λ (x : Task). IsPart x.work came.end one.0) same came.is,
+          subst (λ (x : Task). IsPart x.work came.end one.0) same came.is),
         )
 
     -- and each hand of it has a worker

@@ -22,6 +22,7 @@ use Rattle.script_running.specs.Outcomes.{AreAllParts, IsOutcomeOf, Outcome, Par
 use Rattle.script_running.specs.Reporting.{AddsTo}
 use Rattle.script_running.specs.Sights.{Sees, no_sight}
 use Rattle.script_running.specs.declared.came.Broken.{Broken}
+use Rattle.script_running.specs.declared.came.Broken.TheVariants as broken
 use Rattle.script_running.specs.declared.gathering.CameBack.{CameBack}
 use Rattle.script_running.specs.declared.gathering.Staffed.{Staffed}
 use Rattle.script_running.specs.declared.gathering.TaskParts.{TaskParts}
