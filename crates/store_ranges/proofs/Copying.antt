@@ -1,5 +1,5 @@
 -- A cache that is filled again from its ranges, the one that was used longest ago first.
-use Rattle.std.proofs.Common.{◌≡◌, ℕ, ◌+◌, ◌-◌, ◌<◌, ◌≤◌, Bool, true, false, List, [], ◌∷◌, ◌++◌, length, map, take, Option, Some, None, refl, sym, ◌∙◌, ap, ap₂, subst, arith, length-append, append_assoc}
+use Rattle.std.proofs.Common.{◌≡◌, ℕ, ◌+◌, ◌-◌, ◌<◌, ◌≤◌, Bool, true, false, List, [], ◌∷◌, ◌++◌, length, map, take, Option, Some, None, refl, sym, ◌∙◌, ap, ap₂, subst, arith, length-append, append_assoc, append-nil}
 use Rattle.std.specs.List.{AllByRecursion, IsDistinct}
 use Rattle.std.specs.Map.{keys_of, lookup_entry, remove_entry}
 use Rattle.std.specs.Option.{option_map_or}
@@ -35,6 +35,13 @@ module _ {K V : Type 0} (eq : K → K → Bool) where
       let whole : all ≡ new ++ (k, v) ∷ c.entries = parts ∙ ap (λ (l : List (K × V)). l ++ c.entries) last ∙ append_assoc new ((k, v) ∷ []) c.entries in
       let put = put_in_front all new c.entries c next k v apart (subst (λ (n : ℕ). length all ≤ n) (sym same) room) whole refl is in
       (whole ∙ ap (λ (l : List (K × V)). new ++ l) (sym put.0), put.1 ∙ same)
+
+-- nothing was put yet
+pub none_copied : {K V : Type 0} (of made : LruCache K V) (left : List (K × V)) (cap : ℕ) → left ≡ of.entries → made ≡ lru_cache [] cap → cap ≡ of.cap → (of.entries ≡ left ++ made.entries) × (made.cap ≡ of.cap)
+none_copied {K} {V} of made left cap all none same = (
+  sym (ap₂ (λ (a b : List (K × V)). a ++ b) all (ap (λ (x : LruCache K V). x.entries) none) ∙ append-nil of.entries),
+  ap (λ (x : LruCache K V). x.cap) none ∙ same,
+)
 
 -- none is left
 pub copied : {K V : Type 0} (of made : LruCache K V) (left : List (K × V)) → (of.entries ≡ left ++ made.entries) × (made.cap ≡ of.cap) → left ≡ [] → made ≡ of
