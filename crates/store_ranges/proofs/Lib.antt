@@ -1,3 +1,4 @@
+pub mod Copying
 pub mod SameRanges
 pub mod Behind
 pub mod Spans

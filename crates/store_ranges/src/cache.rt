@@ -7,7 +7,7 @@ ghost use Rattle.store_ranges.specs.Lends.{EndsAs};
 ghost use Rattle.store_ranges.specs.Caches.{held, range, same_range};
 
 use crate::range::Range;
-use base::NoMemory;
+use base::{NoMemory, TryCopy};
 use block_keys::Key;
 use lru::LruCache;
 use std::alloc::Global;
@@ -28,6 +28,19 @@ impl IndexCache {
     {
         let capacity = NonZeroUsize::new(capacity).unwrap();
         let cache = LruCache::new(alloc, capacity)?;
+        Ok(IndexCache { cache })
+    }
+
+    /// A copy, which has the same ranges with the same bytes, in the same order.
+    pub fn copy(&self, alloc: Global) -> Result<IndexCache, NoMemory>
+        ensures { IfOk result (λ copied. held copied ≡ held self.now) }
+    {
+        let _count = self.cache.len();
+        let mut cache = LruCache::new(alloc, self.cache.cap())?;
+        let mut left = self.cache.iter();
+        while let Some((range, bytes)) = left.next_back() {
+            cache.put(*range, bytes.copy()?)?;
+        }
         Ok(IndexCache { cache })
     }
 
