@@ -83,7 +83,7 @@ impl<W: Write + Drop> ReportSink<W> {
         }
     }
 
-    /// Why it failed last, if it did.
+    /// Why it failed last, if it did. A call writes nothing more behind a failure.
     pub(crate) fn trouble(&self) -> Option<ReportTrouble>
         ensures { result ≡ self.now.trouble }
     {
