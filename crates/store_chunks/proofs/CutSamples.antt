@@ -1,5 +1,5 @@
 -- The samples of a chunk that lie in the range.
-use Rattle.std.proofs.Common.{◌≡◌, ℕ, ℤ, ◌+◌, ◌≤◌, ◌≤ℤ◌, Bool, true, false, ◌&&◌, List, [], ◌∷◌, ◌++◌, length, take, drop, Option, Some, None, Result, Ok, Err, refl, sym, ap, subst, ◌∙◌, append_assoc, arith}
+use Rattle.std.proofs.Common.{◌≡◌, ℕ, ℤ, ◌≤ℤ◌, Bool, true, false, ◌&&◌, List, [], ◌∷◌, ◌++◌, length, Option, Some, None, Result, Ok, Err, refl, ap, subst, ◌∙◌, append_assoc, arith}
 use Rattle.std.specs.Prelude.{slice_get, IfOk, IsErr, IsSomeAnd}
 use Rattle.std.specs.List.{list_all}
 use Rattle.std.proofs.lemmas.Bool.{and_parts}
@@ -12,9 +12,7 @@ use Rattle.base.proofs.Fronts.{IsBytes-after, IsBytes-drop, IsBytes-take}
 use Rattle.base.proofs.Lists.{filter_hit}
 use Rattle.label_sets.specs.declared.sample.Sample.{Sample}
 use Rattle.matchers.specs.Selected.{is_between}
-use Rattle.xor_chunks.specs.declared.refusal.XorRefusal.{XorRefusal}
 use Rattle.xor_chunks.specs.Data.{data_at}
-use Rattle.xor_chunks.specs.Grammar.{IsText}
 use Rattle.xor_chunks.proofs.TextsRead.{found}
 use Rattle.chunk_files.specs.Layout.{xor}
 use Rattle.chunk_files.specs.ChunkReading.{chunk_at}

@@ -7,7 +7,6 @@ use Rattle.std.proofs.lemmas.List.{take_more, take_all, drop_more, length-map, m
 use Rattle.std.proofs.lemmas.List.Concat.{flat_map-append}
 use Rattle.std.proofs.lemmas.List.Elements.{filter-append}
 use Rattle.std.proofs.lemmas.Map.Keys.{sorted_from_strictly_increasing, non_decreasing_from_sorted}
-use Rattle.std.proofs.lemmas.Bool.{and_parts}
 use Rattle.std.proofs.lemmas.Bool.Decides.{nat_tests}
 use Rattle.base.proofs.Lists.{filter_hit, filter_miss}
 use Rattle.label_sets.specs.declared.sample.Sample.{Sample}
