@@ -15,7 +15,7 @@ refused_words number =
     else if number == 4 then codes "Its level is not 1: a compaction made it. That says nothing of damage."
     else if number == 5 then codes "Its sources are not the block alone. That says nothing of damage."
     else if number == 6 then codes "Its samples were thinned out. That says nothing of damage."
-    else if number == 7 then codes "A file of it has more than 67,108,864 bytes, or its index would have."
+    else if number == 7 then codes "A file of it has more than 67,108,864 bytes, or its index would have; its meta.json has more than 4,194,304; or its segments have more than 1,073,741,824 together."
     else if number == 8 then codes "Its index is bad."
     else if number == 9 then codes "Its index has no series."
     else if number == 10 then codes "A chunk of it is bad, has no samples, or has other times than its index says."
