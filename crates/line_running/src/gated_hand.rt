@@ -45,7 +45,7 @@ impl<'a, B: Bucket, G: Gate> GatedHand<'a, B, G> {
 
     /// The hand without the gate.
     pub(crate) fn into_hand(self) -> LineHand<B>
-        ensures { result ≡ self }
+        ensures { result ≡ self.entry }
     {
         let GatedHand { hand, gate: _ } = self;
         hand
