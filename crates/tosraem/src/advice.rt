@@ -17,7 +17,7 @@ const USAGE: &str =
        tosraem check SHELF ULID                checks one block, as a shipper does before it ships
        tosraem generate NUMBER                 runs a day that the program makes itself
 BUCKET is the word memory, or a folder that is new or empty. SHELF is the word none, or a folder of blocks.
-ULID is the name of a block's folder: 26 characters of 0 to 9 and A to Z.
+ULID is the name of a block's folder: 26 characters, upper case.
 This is version 0.1. README.md says more.
 ";
 
