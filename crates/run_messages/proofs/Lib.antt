@@ -5,3 +5,4 @@ pub mod LineWalks
 pub mod RuleLines
 pub mod TaskLines
 pub mod ToldLines
+pub mod WorkerSeats

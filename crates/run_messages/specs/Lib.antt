@@ -1,3 +1,4 @@
+pub mod Actors
 pub mod Breaches
 pub mod Calls
 pub mod Dates

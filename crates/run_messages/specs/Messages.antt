@@ -10,6 +10,8 @@ use Rattle.world_core.specs.Journals.{entry_at}
 use Rattle.world_core.specs.declared.entry.Entry.{Entry}
 use Rattle.world_core.specs.declared.op.Op.{Op}
 use Rattle.world_core.specs.declared.op.Op.TheVariants as ops
+use Rattle.script_core.specs.declared.script.Script.{Script}
+use Rattle.run_messages.specs.Actors.{entry_lines}
 use Rattle.run_messages.specs.Dates.{IsDateOf}
 use Rattle.run_messages.specs.Sentences.{sentence_of}
 use Rattle.breach_finding.specs.declared.found.BreachRule.{BreachRule}
@@ -33,9 +35,31 @@ entry_of journal finding = entry_at journal (entry_number finding)
 abbrev pub line_of : List ℕ → ℕ → Option ℕ
 line_of lines task = if task == 0 then None else slice_get lines (task - 1)
 
-unfoldable pub line_words : Option ℕ → List ℕ
-line_words None = []
-line_words (Some line) = codes "line " ++ decimal_text line ++ codes ": "
+abbrev pub line_list : Option ℕ → List ℕ
+line_list None = []
+line_list (Some line) = line ∷ []
+
+-- the lines by which an entry may have been made
+abbrev pub lines_at : Option Script → List Entry → Option Entry → List ℕ
+lines_at (Some script) journal (Some entry) = entry_lines script journal entry
+lines_at _ journal _ = []
+
+-- The lines of which a failure tells, where the lines of the script's tasks have these numbers: that of its task; and of a breach
+-- those of which its entry may be one.
+abbrev pub lines_for : List ℕ → Option Script → List Entry → ℕ → Finding → List ℕ
+lines_for lines script journal task (findings.Breach breach) = lines_at script journal (entry_at journal breach.entry)
+lines_for lines script journal task other = line_list (line_of lines task)
+
+abbrev pub told_lines : List ℕ → Option Script → List Entry → Told → List ℕ
+told_lines lines script journal told = lines_for lines script journal told.task told.finding
+
+unfoldable pub others_words : List ℕ → List ℕ
+others_words [] = []
+others_words (line ∷ lines) = codes " or a later one of this gateway"
+
+unfoldable pub line_words : List ℕ → List ℕ
+line_words [] = []
+line_words (line ∷ others) = codes "line " ++ decimal_text line ++ others_words others ++ codes ": "
 
 -- the object of a key; of a segment that has no name its block
 unfoldable pub key_words : Key → List ℕ
@@ -68,18 +92,18 @@ excess_words (findings.Breach breach) = passed_by breach.rule (breach.found - br
 excess_words other = []
 
 -- the line of the report, with the line of its task before it
-unfoldable pub front_words : Option ℕ → List ℕ → List ℕ
-front_words line told = line_words line ++ told ++ codes ". "
+unfoldable pub front_words : List ℕ → List ℕ → List ℕ
+front_words lines told = line_words lines ++ told ++ codes ". "
 
 unfoldable pub meaning_words : Finding → List ℕ
 meaning_words finding = sentence_of finding ++ excess_words finding ++ newline
 
 -- the line of the report, what was done and when, and what that means
-unfoldable pub message_with : Option ℕ → Option Entry → Told → List ℕ → List ℕ
-message_with line entry told date = front_words line told.line ++ entry_words entry date ++ meaning_words told.finding
+unfoldable pub message_with : List ℕ → Option Entry → Told → List ℕ → List ℕ
+message_with lines entry told date = front_words lines told.line ++ entry_words entry date ++ meaning_words told.finding
 
-abbrev pub message_of : List ℕ → List Entry → Told → List ℕ → List ℕ
-message_of lines journal told date = message_with (line_of lines told.task) (entry_of journal told.finding) told date
+abbrev pub message_of : List ℕ → Option Script → List Entry → Told → List ℕ → List ℕ
+message_of lines script journal told date = message_with (told_lines lines script journal told) (entry_of journal told.finding) told date
 
 abbrev pub IsDateAt : Option Entry → List ℕ → Type 0
 IsDateAt None date = date ≡ []
@@ -90,11 +114,11 @@ abbrev pub IsDated : List Entry → Told → List ℕ → Type 0
 IsDated journal told date = IsDateAt (entry_of journal told.finding) date
 
 -- the messages of failures, one after another
-abbrev pub AreMessages : List ℕ → List Entry → List Told → List ℕ → Type 0
-AreMessages lines journal [] text = text ≡ []
-AreMessages lines journal (told ∷ more) text =
-    (date : List ℕ) × (rest : List ℕ) × IsDated journal told date × AreMessages lines journal more rest
-    × (text ≡ message_of lines journal told date ++ rest)
+abbrev pub AreMessages : List ℕ → Option Script → List Entry → List Told → List ℕ → Type 0
+AreMessages lines script journal [] text = text ≡ []
+AreMessages lines script journal (told ∷ more) text =
+    (date : List ℕ) × (rest : List ℕ) × IsDated journal told date × AreMessages lines script journal more rest
+    × (text ≡ message_of lines script journal told date ++ rest)
 
 -- how many failures are told at most
 abbrev pub most_told : ℕ

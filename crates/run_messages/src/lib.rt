@@ -2,6 +2,7 @@
 //! script, the object and the moment.
 #![tactic(auto)]
 
+mod actors;
 mod breach;
 mod dates;
 mod finding;

@@ -4,7 +4,7 @@ ghost use Rattle.std.specs.Prelude.{◌≡◌, ◌≤◌, ◌++◌, IsTrue, OnOk
 ghost use Rattle.base.specs.Decimal.{decimal_text};
 ghost use Rattle.ulid_core.specs.UlidText.{text_of};
 ghost use Rattle.block_keys.specs.Keys.{IsLawfulKey, is_lawful_key};
-ghost use Rattle.run_messages.specs.Messages.{entry_words, excess_words, front_words, key_words, line_words, meaning_words, message_with, op_words, passed_by, span_words};
+ghost use Rattle.run_messages.specs.Messages.{entry_words, excess_words, front_words, key_words, line_words, meaning_words, message_with, op_words, others_words, passed_by, span_words};
 
 use crate::finding::Finding;
 use crate::sentences::sentence;
@@ -20,24 +20,24 @@ use world_core::{Entry, Op};
 pub(crate) fn put_message(
     out: &mut Vec<u8>,
     told: &Told,
-    line: Option<u64>,
+    lines: &[u64],
     entry: Option<&Entry>,
     date: &[u8],
 ) -> Result<(), NoMemory>
-    ensures { OnOk result (out.new.items
-        ≡ out.old.items ++ message_with line (option_copied entry.entry) told.now date.now) }
+    ensures { OnOk result (out.new.items ≡ out.old.items
+        ++ message_with lines.now (option_copied entry.entry) told.now date.now) }
 {
-    put_front(out, line, told.line.as_str())?;
+    put_front(out, lines, told.line.as_str())?;
     put_entry(out, entry, date)?;
     put_meaning(out, told.finding)
 }
 
 /// Appends the line of the report, with that of its task before it.
 #[tactic(auto, unfolding(crate::specs::Messages::front_words))]
-fn put_front(out: &mut Vec<u8>, line: Option<u64>, told: &str) -> Result<(), NoMemory>
-    ensures { OnOk result (out.new.items ≡ out.old.items ++ front_words line told.now) }
+fn put_front(out: &mut Vec<u8>, lines: &[u64], told: &str) -> Result<(), NoMemory>
+    ensures { OnOk result (out.new.items ≡ out.old.items ++ front_words lines.now told.now) }
 {
-    put_line(out, line)?;
+    put_lines(out, lines)?;
     put_text(out, told)?;
     put_text(out, ". ")
 }
@@ -59,18 +59,32 @@ pub(crate) fn put_text(out: &mut Vec<u8>, text: &str) -> Result<(), NoMemory>
     Ok(())
 }
 
-/// Appends the number of the task's line.
-#[tactic(auto, unfolding(crate::specs::Messages::line_words))]
-fn put_line(out: &mut Vec<u8>, line: Option<u64>) -> Result<(), NoMemory>
-    ensures { OnOk result (out.new.items ≡ out.old.items ++ line_words line) }
+/// Appends the number of the task's line, or of the first one of which the task may be.
+fn put_lines(out: &mut Vec<u8>, lines: &[u64]) -> Result<(), NoMemory>
+    ensures { OnOk result (out.new.items ≡ out.old.items ++ line_words lines.now) }
 {
-    match line {
-        Some(line) => {
-            put_text(out, "line ")?;
-            put_unsigned(out, line)?;
-            put_text(out, ": ")
-        }
-        None => Ok(()),
+    match lines {
+        [] => Ok(()),
+        [line, others @ ..] => put_line(out, *line, others),
+    }
+}
+
+fn put_line(out: &mut Vec<u8>, line: u64, others: &[u64]) -> Result<(), NoMemory>
+    ensures { OnOk result (out.new.items ≡ out.old.items
+        ++ (codes "line " ++ decimal_text line ++ others_words others.now ++ codes ": ")) }
+{
+    put_text(out, "line ")?;
+    put_unsigned(out, line)?;
+    put_text(out, others_sentence(others))?;
+    put_text(out, ": ")
+}
+
+fn others_sentence(others: &[u64]) -> &'static str
+    ensures { result.now ≡ others_words others.now }
+{
+    match others {
+        [] => "",
+        [_, ..] => " or a later one of this gateway",
     }
 }
 

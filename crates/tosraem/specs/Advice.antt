@@ -17,6 +17,8 @@ usage =
     ++ line (codes "       tosraem check SHELF ULID                checks one block, as a shipper does before it ships")
     ++ line (codes "       tosraem generate NUMBER                 runs a day that the program makes itself")
     ++ line (codes "BUCKET is the word memory, or a folder that is new or empty. SHELF is the word none, or a folder of blocks.")
+    ++ line (codes "ULID is the name of a block's folder: 26 characters, upper case.")
+    ++ line (codes "This is version 0.1. README.md says more.")
 
 abbrev pub advice_of : Status → List ℕ
 advice_of Done = []

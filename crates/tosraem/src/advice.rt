@@ -10,13 +10,15 @@ use replay_cli::Status;
 use std::io;
 use std::io::Write;
 
-/// How the program is called, a line a form, and what stands for the words.
+/// How the program is called, a line a form, what stands for the words, and which version it is.
 const USAGE: &str =
     "usage: tosraem serial BUCKET SHELF < SCRIPT    runs a script, one activity after another
        tosraem replay BUCKET SHELF < SCRIPT    runs it with those of one phase beside each other, in threads
        tosraem check SHELF ULID                checks one block, as a shipper does before it ships
        tosraem generate NUMBER                 runs a day that the program makes itself
 BUCKET is the word memory, or a folder that is new or empty. SHELF is the word none, or a folder of blocks.
+ULID is the name of a block's folder: 26 characters, upper case.
+This is version 0.1. README.md says more.
 ";
 
 /// Says on standard error, or to another writer, what is to be said of a call that ended with this number, with this trouble and
