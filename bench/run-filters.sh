@@ -13,7 +13,7 @@ trap 'rm -rf "$made"' EXIT
 own=$made/crates/filters_c
 mkdir -p "$own/src"
 cp "$top/bench/filters_c/lib.rt.txt" "$own/src/lib.rt"
-below="base wire_bytes ulid_core label_sets moment_core block_meta sync_filters"
+below="base wire_bytes ulid_core label_sets moment_core block_keys block_meta sync_filters"
 for name in $below; do cp -a "$top/crates/$name" "$made/crates/$name"; done
 for name in $below; do grep "^$name:" "$top/crates.txt"; done >"$made/crates.txt"
 echo "filters_c staticlib: base wire_bytes ulid_core label_sets moment_core block_meta sync_filters" >>"$made/crates.txt"
