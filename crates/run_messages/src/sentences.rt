@@ -65,7 +65,8 @@ fn refused_sentence(number: u64) -> &'static str
         4 => "Its level is not 1: a compaction made it. That says nothing of damage.",
         5 => "Its sources are not the block alone. That says nothing of damage.",
         6 => "Its samples were thinned out. That says nothing of damage.",
-        7 => "It is too large: its meta.json has more than 4,194,304 bytes, another file more than 67,108,864 (or its index would), or its segments more than 1,073,741,824 together.",
+        7 =>
+            "It is too large: its meta.json has more than 4,194,304 bytes, another file more than 67,108,864 (or its index would), or its segments more than 1,073,741,824 together.",
         8 => "Its index is bad.",
         9 => "Its index has no series.",
         10 => "A chunk of it is bad, has no samples, or has other times than its index says.",

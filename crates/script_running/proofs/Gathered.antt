@@ -226,11 +226,13 @@ module _ (setting : Setting) (number : ℕ) (phase : Phase) (taken : ℕ)
           h,
           contained hs h (for_does gateways h place task.work (for_hand w h of.1 of.2 inside)),
           sym (ap turn_by own),
-          (came.end,
-          one.0,
-          one.1,
-          record { worker = (c.one).worker; own = (c.one).ends; among = made_among made c.one c.among; is = ap (λ (v : Worker). v.gateway) c.is ∙ own; came = came.among },
-          subst (λ (x : Task). IsPart x.work came.end one.0) same came.is),
+          (
+            came.end,
+            one.0,
+            one.1,
+            record { worker = (c.one).worker; own = (c.one).ends; among = made_among made c.one c.among; is = ap (λ (v : Worker). v.gateway) c.is ∙ own; came = came.among },
+            subst (λ (x : Task). IsPart x.work came.end one.0) same came.is,
+          ),
         )
 
     -- and each hand of it has a worker
@@ -247,24 +249,24 @@ module _ (setting : Setting) (number : ℕ) (phase : Phase) (taken : ℕ)
     apart : IsDistinct (clash place) backs
     apart = IsDistinct-IsPermutation (clash place) (clash_flips place) (zip workers others) backs turns.same
         (IsDistinct-from_apart (clash place) (zip workers others) (λ i j d less below. not_yes (clash place (get_or (zip workers others) i d) (get_or (zip workers others) j d)) (λ yes.
-            let v = get_or (zip workers others) i d in
-            let w = get_or (zip workers others) j d in
-            let here = zip_first_at workers others i d (omega (arith, less, below)) in
-            let there = zip_first_at workers others j d below in
-            let one = same_place workers own_hands i v.0 seated.count here in
-            let other = same_place workers own_hands j w.0 seated.count there in
-            let its = seated.each i one.0 v.0 one.1 here in
-            let others_is = seated.each j other.0 w.0 other.1 there in
-            let both = clash_says place v w yes in
-            no_twice own_hands i j one.0 other.0 less one.1 other.1
-            (one_for gateways place task.work one.0 other.0 (for_hand v.0 one.0 (taken + i + 1) its both.0) (for_hand w.0 other.0 (taken + j + 1) others_is both.1)
-            (turns_alike (gateway_of one.0) (gateway_of other.0) (sym (ap turn_by its.gateway) ∙ both.2 ∙ ap turn_by others_is.gateway))) staff.once)))
+        let v = get_or (zip workers others) i d in
+        let w = get_or (zip workers others) j d in
+        let here = zip_first_at workers others i d (omega (arith, less, below)) in
+        let there = zip_first_at workers others j d below in
+        let one = same_place workers own_hands i v.0 seated.count here in
+        let other = same_place workers own_hands j w.0 seated.count there in
+        let its = seated.each i one.0 v.0 one.1 here in
+        let others_is = seated.each j other.0 w.0 other.1 there in
+        let both = clash_says place v w yes in
+        no_twice own_hands i j one.0 other.0 less one.1 other.1
+        (one_for gateways place task.work one.0 other.0 (for_hand v.0 one.0 (taken + i + 1) its both.0) (for_hand w.0 other.0 (taken + j + 1) others_is both.1)
+        (turns_alike (gateway_of one.0) (gateway_of other.0) (sym (ap turn_by its.gateway) ∙ both.2 ∙ ap turn_by others_is.gateway))) staff.once)))
 
     task_came : (o : Outcome) → IsToldBy task.work (parts_of place backs) o → TaskCame setting.script workers ends place task o
     task_came o told =
         let lined = aligned turn_of (λ (h : Hand). turn_by (gateway_of h)) (own_parts place) (Gave task.work place workers ends) (has_place place) backs hs (turns_rise turn_of backs turns.ascend) (hands_rise gateways place task.work) apart
-            (λ back here yes. gave back here (has_it place back yes)) (has_none place)
-            (λ h inside. let b = has_worker h inside in (b.0, b.1, b.2, has_yes place b.0 b.3)) in
+        (λ back here yes. gave back here (has_it place back yes)) (has_none place)
+        (λ h inside. let b = has_worker h inside in (b.0, b.1, b.2, has_yes place b.0 b.3)) in
         let by = by_hands task.work place workers ends hs (parts_of place backs) lined in
         let count : length by.own ≡ length hs = AllZip-long (λ hand end. CameTo workers ends (gateway_of hand) place end) hs by.own by.came in
         let many : length by.own ≡ length (parts_of place backs) = AllZip-as_long (IsPart task.work) by.own (parts_of place backs) by.are in
@@ -292,7 +294,7 @@ module _ (setting : Setting) (number : ℕ) (phase : Phase) (taken : ℕ)
         subst (λ (held : Holding). Sees held sight) (sym (c.left place (ap (λ (v : Worker). v.gateway) c.is ∙ gateway))) (subst (Sees one.last) same (seen_by one.last e (All-contains (λ (x : WorkerEnd). x.came ≡ Ok tt) others e all (second_in_zip workers others w e there)) (c.has).sees))
     | inr (older, none) ↦
         let apart = subst (All (λ (w : Worker). w.gateway ≢ Some place)) (zip_firsts workers others done.1)
-            (All-map (λ (w : Worker). w.gateway ≢ Some place) (λ (b : Worker × WorkerEnd). b.0) (zip workers others) (All-permutation (λ (b : Worker × WorkerEnd). b.0.gateway ≢ Some place) backs (zip workers others) (IsPermutation-sym (zip workers others) backs turns.same) none)) in
+        (All-map (λ (w : Worker). w.gateway ≢ Some place) (λ (b : Worker × WorkerEnd). b.0) (zip workers others) (All-permutation (λ (b : Worker × WorkerEnd). b.0.gateway ≢ Some place) backs (zip workers others) (IsPermutation-sym (zip workers others) backs turns.same) none)) in
         subst (λ (held : Holding). Sees held sight) (sym (left.others place apart)) (beside place sight older apart)
   ]
 

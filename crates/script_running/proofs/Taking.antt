@@ -78,19 +78,19 @@ none_paired place (p ∷ places) = refl
 pair_first : (place p : ℕ) (x : Part) (pairs : List (ℕ × Part)) (front more : List Part) → (p ≡ place → more ≡ front ++ x ∷ []) → (p ≢ place → more ≡ front) → more ++ paired_with place pairs ≡ front ++ paired_with place ((p, x) ∷ pairs)
 pair_first place p x pairs front more here there = by_bool (p == place)
     (λ yes. let same : p ≡ place = grind (arith, nat_tests, yes) in
-        ap (λ (l : List Part). l ++ paired_with place pairs) (here same) ∙ append_assoc front (x ∷ []) (paired_with place pairs)
-        ∙ ap (λ (b : Bool). front ++ (if b then x ∷ paired_with place pairs else paired_with place pairs)) (sym yes))
+    ap (λ (l : List Part). l ++ paired_with place pairs) (here same) ∙ append_assoc front (x ∷ []) (paired_with place pairs)
+    ∙ ap (λ (b : Bool). front ++ (if b then x ∷ paired_with place pairs else paired_with place pairs)) (sym yes))
     (λ no. let apart : p ≢ place = λ same. absurd (let twice : (p == place) ≡ true = grind (arith, nat_tests, same) in cc (twice, no)) in
-        ap (λ (l : List Part). l ++ paired_with place pairs) (there apart)
-        ∙ ap (λ (b : Bool). front ++ (if b then x ∷ paired_with place pairs else paired_with place pairs)) (sym no))
+    ap (λ (l : List Part). l ++ paired_with place pairs) (there apart)
+    ∙ ap (λ (b : Bool). front ++ (if b then x ∷ paired_with place pairs else paired_with place pairs)) (sym no))
 
 -- a part was added at a place
 pub laid_one : (lists now : List TaskParts) (p : ℕ) (own more : TaskParts) (x : Part) → slice_get lists p ≡ Some own → p < length lists → now ≡ set lists p more → more.parts.items ≡ own.parts.items ++ x ∷ []
     → (place : ℕ) (pairs : List (ℕ × Part)) → parts_at now place ++ paired_with place pairs ≡ parts_at lists place ++ paired_with place ((p, x) ∷ pairs)
 laid_one lists now p own more x at within is pushed place pairs = pair_first place p x pairs (parts_at lists place) (parts_at now place)
     (λ same.
-        ap (λ (l : List TaskParts). parts_at l place) is ∙ ap (λ (n : ℕ). parts_at (set lists p more) n) (sym same) ∙ ap in_them (set_here lists p more within) ∙ pushed
-        ∙ ap (λ (o : Option TaskParts). in_them o ++ x ∷ []) (sym at) ∙ ap (λ (n : ℕ). parts_at lists n ++ x ∷ []) same)
+    ap (λ (l : List TaskParts). parts_at l place) is ∙ ap (λ (n : ℕ). parts_at (set lists p more) n) (sym same) ∙ ap in_them (set_here lists p more within) ∙ pushed
+    ∙ ap (λ (o : Option TaskParts). in_them o ++ x ∷ []) (sym at) ∙ ap (λ (n : ℕ). parts_at lists n ++ x ∷ []) same)
     (λ apart. ap (λ (l : List TaskParts). parts_at l place) is ∙ ap in_them (slice_get-set_other lists p place more (λ same. apart (sym same))))
 
 -- parts that are laid, and those that are left

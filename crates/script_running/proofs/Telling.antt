@@ -37,5 +37,5 @@ module _ {P : Type 0} (tells : P → Script → List Task → List Outcome → T
       let here : place ≡ 0 + length (take place tasks) = omega (arith, length-take place tasks, within) in
       let more = told_more parts 0 (take place tasks) task told.0 o told.1 (subst (λ (n : ℕ). IsToldBy task.work (parts n) o) here by) in
       let both = subst (λ (l : List Task). AreTold parts 0 l (told.0 ++ o ∷ []) × AddsTo tells script l (told.0 ++ o ∷ []) first new) (sym (take_place tasks place task (found tasks place place task refl within value)))
-          (more, adds_more tells script (take place tasks) (task ∷ []) told.0 (o ∷ []) first old new told.2 adds) in
+      (more, adds_more tells script (take place tasks) (task ∷ []) told.0 (o ∷ []) first old new told.2 adds) in
       (told.0 ++ o ∷ [], both.0, both.1)

@@ -49,9 +49,9 @@ none_here place (p ∷ places) [] none = refl
 none_here place (p ∷ places) (x ∷ parts) none = by_bool (p == place)
     (λ yes. absurd (not_both (list_any (λ q. q == place) (p ∷ places)) (any_of_member (λ q. q == place) (p ∷ places) p (contains_first p places) yes) none))
     (λ no. ap (λ (b : Bool). if b then x ∷ paired_with place (zip places parts) else paired_with place (zip places parts)) no
-        ∙ none_here place places parts (by_bool (list_any (λ q. q == place) places)
-            (λ later. let m = member_of_any (λ q. q == place) places later in absurd (not_both (list_any (λ q. q == place) (p ∷ places)) (any_of_member (λ q. q == place) (p ∷ places) m.0 (contains_later p m.0 places m.1) m.2) none))
-            (λ is. is)))
+    ∙ none_here place places parts (by_bool (list_any (λ q. q == place) places)
+    (λ later. let m = member_of_any (λ q. q == place) places later in absurd (not_both (list_any (λ q. q == place) (p ∷ places)) (any_of_member (λ q. q == place) (p ∷ places) m.0 (contains_later p m.0 places m.1) m.2) none))
+    (λ is. is)))
 
 -- a worker without the task has no part of it
 pub has_none : (place : ℕ) (back : Worker × WorkerEnd) → has_place place back ≡ false → own_parts place back ≡ []
@@ -61,9 +61,9 @@ has_none place back none = none_here place back.0.tasks back.1.parts.items none
 none_later : (p : ℕ) (places : List ℕ) → IsStrictlySortedBy nat_cmp (p ∷ places) → list_any (λ q. q == p) places ≡ false
 none_later p places up = by_bool (list_any (λ q. q == p) places)
     (λ yes.
-        let m = member_of_any (λ q. q == p) places yes in
-        let more : p < m.0 = lt-from_Less p m.0 (each_member (λ q. nat_cmp p q ≡ Less) places m.0 (sorted_head nat_cmp p places up) m.1) in
-        let same : m.0 ≡ p = let test = m.2 in grind (arith, nat_tests, test) in absurd (omega (arith, more, same)))
+    let m = member_of_any (λ q. q == p) places yes in
+    let more : p < m.0 = lt-from_Less p m.0 (each_member (λ q. nat_cmp p q ≡ Less) places m.0 (sorted_head nat_cmp p places up) m.1) in
+    let same : m.0 ≡ p = let test = m.2 in grind (arith, nat_tests, test) in absurd (omega (arith, more, same)))
     (λ no. no)
 
 -- one with the task has one part of it
@@ -73,12 +73,12 @@ paired_once place [] parts long up inside = absurd (no_member place inside)
 paired_once place (p ∷ places) [] long up inside = absurd (omega (arith, long))
 paired_once place (p ∷ places) (x ∷ parts) long up inside = by_bool (p == place)
     (λ yes.
-        let same : p ≡ place = grind (arith, nat_tests, yes) in
-        let none = subst (λ (n : ℕ). list_any (λ q. q == n) places ≡ false) same (none_later p places up) in (
-          x,
-          ap (λ (b : Bool). if b then x ∷ paired_with place (zip places parts) else paired_with place (zip places parts)) yes ∙ ap (λ (l : List Part). x ∷ l) (none_here place places parts none),
-          subst (λ (n : ℕ). Contains ((p, x) ∷ zip places parts) (n, x)) same (contains_first (p, x) (zip places parts)),
-        ))
+    let same : p ≡ place = grind (arith, nat_tests, yes) in
+    let none = subst (λ (n : ℕ). list_any (λ q. q == n) places ≡ false) same (none_later p places up) in (
+      x,
+      ap (λ (b : Bool). if b then x ∷ paired_with place (zip places parts) else paired_with place (zip places parts)) yes ∙ ap (λ (l : List Part). x ∷ l) (none_here place places parts none),
+      subst (λ (n : ℕ). Contains ((p, x) ∷ zip places parts) (n, x)) same (contains_first (p, x) (zip places parts)),
+    ))
     (λ no. elim (member_cases p place places inside) [
       | inl same ↦ let yes : (p == place) ≡ true = grind (arith, nat_tests, same) in absurd (not_both (p == place) yes no)
       | inr later ↦
@@ -268,11 +268,11 @@ module _ {B H P : Type 0} (turn : B → ℕ) (of : H → ℕ) (parts : B → Lis
       (λ isnt. passed b bs [] (none b isnt) (aligned bs [] behind.1 rise (IsDistinct-tail meets b bs once) (λ x inside. gave x (contains_later b x bs inside)) none (has_later b bs [] isnt has)))
   aligned (b ∷ bs) (h ∷ hs) behind rise once gave none has = by_bool (does b)
       (λ is.
-          let own = gave b (contains_first b bs) is in
-          elim (member_cases h own.0 hs own.1) [
-            | inl same ↦
-                let of_it : of h ≡ turn b = ap of same ∙ own.2 in
-                (parts b, flat_map parts bs, refl, subst (λ (k : H). Gave k (parts b)) (sym same) own.3, aligned bs hs behind.1 rise.1 (IsDistinct-tail meets b bs once) (gives_next b bs h hs once is of_it gave) none (has_next b bs h hs rise of_it has))
-            | inr later ↦ absurd (no_other b bs h hs own.0 behind rise own.2 later has)
-          ])
+      let own = gave b (contains_first b bs) is in
+      elim (member_cases h own.0 hs own.1) [
+        | inl same ↦
+            let of_it : of h ≡ turn b = ap of same ∙ own.2 in
+            (parts b, flat_map parts bs, refl, subst (λ (k : H). Gave k (parts b)) (sym same) own.3, aligned bs hs behind.1 rise.1 (IsDistinct-tail meets b bs once) (gives_next b bs h hs once is of_it gave) none (has_next b bs h hs rise of_it has))
+        | inr later ↦ absurd (no_other b bs h hs own.0 behind rise own.2 later has)
+      ])
       (λ isnt. passed b bs (h ∷ hs) (none b isnt) (aligned bs (h ∷ hs) behind.1 rise (IsDistinct-tail meets b bs once) (λ x inside. gave x (contains_later b x bs inside)) none (has_later b bs (h ∷ hs) isnt has)))

@@ -51,7 +51,7 @@ returns-in_default-clause-hand g c =
 pub loop-place-preserved : goal.loop-place-preserved
 loop-place-preserved g c = record {
   done = λ views shows. done_more g.R.Report.tells (setting_by c.args.phase.now.script.now c.args.phase.now.means.now.shelf) (seat_of c.args.phase.now.seats.workers) c.loop-place.place c.args.phase.now.tasks.now c.index-phase-place.result views c.loop-place.sights c.do_task.new.sights
-    c.args.hand.now.world.journal c.loop-place.hand.world.journal c.do_task.new.hand.world.journal c.loop-place.lines c.loop-place-test.true c.index-phase-place.is
+      c.args.hand.now.world.journal c.loop-place.hand.world.journal c.do_task.new.hand.world.journal c.loop-place.lines c.loop-place-test.true c.index-phase-place.is
       c.in_ok-outcome.outcome c.add-told.new.self (c.loop-place.invariant.done views shows)
       (λ v shows. lent_step c.args.phase.now.means.now.script c.args.phase.now.script.now c.args.phase.now.means.now.shelf (seat_of c.args.phase.now.seats.workers) c.loop-place.place c.index-phase-place.result v c.do_task.new.sights c.loop-place.hand.world.journal c.do_task.new.hand.world.journal (Ok c.in_ok-outcome.outcome) c.requires.means.lent (subst (λ (t : Task). TaskStep (line_by (setting_in c.args.phase.now.means.now) c.args.phase.now.seats.workers) (one_of c.loop-place.place t) v c.do_task.new.sights c.loop-place.hand.world.journal c.do_task.new.hand.world.journal (Ok c.in_ok-outcome.outcome)) (sym c.index-phase-place.is) (c.in_ok-outcome.ensures.step v shows)))
       (λ ts os are. subst (λ (t : Task). g.R.Report.tells c.add-told.new.self c.args.phase.now.script.now (ts ++ t ∷ []) (os ++ c.in_ok-outcome.outcome ∷ [])) (sym c.index-phase-place.is) (on_ok _ c.add-told.result tt c.in-Ok.is (c.add-told.ensures ts os are)));
