@@ -1,7 +1,7 @@
 -- What gateways gave to a query, one after another.
 use Rattle.std.proofs.Common.{◌≡◌, ◌≢◌, ℕ, suc, ◌+◌, ◌<◌, get_or, take, drop, Bool, true, false, List, [], ◌∷◌, ◌++◌, length, map, Option, Some, None, refl, sym, ◌∙◌, ap, subst, arith, append-nil}
 use Rattle.std.specs.Prelude.{Ok, Err, OnOk, Result, is_some, not}
-use Rattle.std.proofs.lemmas.List.{map-id, take-append-drop}
+use Rattle.std.proofs.lemmas.List.{map-append, map-id, take-append-drop}
 use Rattle.base.proofs.Lists.{drop_place}
 use Rattle.querier.specs.Gathered.{IsGathered}
 use Rattle.querier.specs.declared.answer.Answer.{Answer}
@@ -187,6 +187,11 @@ same_parts (p ∷ one) (q ∷ other) is =
     let first : came_to.Query p ≡ came_to.Query q = cc (is) in
     let rest : map came_to.Query one ≡ map came_to.Query other = cc (is) in
     ap (λ (x : QueryPart). x ∷ one) (inner p q first) ∙ ap (λ (l : List QueryPart). q ∷ l) (same_parts one other rest)
+
+-- one gateway's part more
+pub part_more : (own : List QueryPart) (yielded : List Part) (one : Part) (part : QueryPart) → yielded ≡ map came_to.Query own → one ≡ came_to.Query part → yielded ++ one ∷ [] ≡ map came_to.Query (own ++ part ∷ [])
+part_more own yielded one part are is =
+    ap (λ (l : List Part). l ++ one ∷ []) are ∙ ap (λ (p : Part). map came_to.Query own ++ p ∷ []) is ∙ sym (map-append came_to.Query own (part ∷ []))
 
 -- all parts were those of gateways
 no_whole : (own : List QueryPart) (parts : List Part) (one : Part) (o : Outcome) → parts ≡ map came_to.Query own → parts ≡ one ∷ [] → IsWhole one o → ⊥

@@ -28,6 +28,36 @@ loop-own-preserved g c =
           below c.index-tasks-place.is i.told c.in_ok-outcome.outcome (subst (λ (l : List Part). IsToldBy task.work l c.in_ok-outcome.outcome) (sym here) (c.in_ok-outcome.ensures.whole task.work)) (λ before outcomes told. c.in_ok-add.ensures before outcomes told);
     }
 
+pub loop-own-preserved-in_ok-add : goal.loop-own-preserved-in_ok-add
+loop-own-preserved-in_ok-add g c =
+    let i = c.loop-own.invariant in
+    let own = c.in-Some.own in
+    let road = YieldsList-from_vec c.args.lists.items c.into_iter-own-iterator.ensures.into_iter_gives.0 (omega (arith, c.into_iter-own-iterator.ensures.into_iter_gives.1, c.args.lists.ok)) in
+    let turn = YieldsList-turn road c.loop-own.yielded c.loop-own.own-iterator c.loop-own.yielded_by c.next.result c.next.new.self own c.in-Some.is c.next.ensures.steps in
+    let below : c.loop-own.place < length c.args.phase.now.tasks.now = omega (arith, turn.0, i.place, c.requires.many) in
+    let here = ap in_them (found c.args.lists.items (length c.loop-own.yielded) c.loop-own.place own i.place turn.0 turn.1) in
+    let task = c.index-tasks-place.result in
+    record {
+      place = omega (arith, i.place, length-append c.loop-own.yielded (own ∷ []));
+      told = told_next g.P.Report.tells c.args.phase.now.script.now (parts_at c.args.lists.items) c.args.phase.now.tasks.now c.args.report.now c.loop-own.place task c.loop-own.report c.add.new.self
+          below c.index-tasks-place.is i.told c.in_ok-outcome.outcome (subst (λ (l : List Part). IsToldBy task.work l c.in_ok-outcome.outcome) (sym here) (c.in_ok-outcome.ensures.whole task.work)) (λ before outcomes told. c.in_ok-add.ensures before outcomes told);
+    }
+
+pub loop-own-preserved-in_ok-add-2 : goal.loop-own-preserved-in_ok-add-2
+loop-own-preserved-in_ok-add-2 g c =
+    let i = c.loop-own.invariant in
+    let own = c.in-Some.own in
+    let road = YieldsList-from_vec c.args.lists.items c.into_iter-own-iterator.ensures.into_iter_gives.0 (omega (arith, c.into_iter-own-iterator.ensures.into_iter_gives.1, c.args.lists.ok)) in
+    let turn = YieldsList-turn road c.loop-own.yielded c.loop-own.own-iterator c.loop-own.yielded_by c.next.result c.next.new.self own c.in-Some.is c.next.ensures.steps in
+    let below : c.loop-own.place < length c.args.phase.now.tasks.now = omega (arith, turn.0, i.place, c.requires.many) in
+    let here = ap in_them (found c.args.lists.items (length c.loop-own.yielded) c.loop-own.place own i.place turn.0 turn.1) in
+    let task = c.index-tasks-place.result in
+    record {
+      place = omega (arith, i.place, length-append c.loop-own.yielded (own ∷ []));
+      told = told_next g.P.Report.tells c.args.phase.now.script.now (parts_at c.args.lists.items) c.args.phase.now.tasks.now c.args.report.now c.loop-own.place task c.loop-own.report c.add.new.self
+          below c.index-tasks-place.is i.told c.in_ok-outcome.outcome (subst (λ (l : List Part). IsToldBy task.work l c.in_ok-outcome.outcome) (sym here) (c.in_ok-outcome.ensures.whole task.work)) (λ before outcomes told. c.in_ok-add.ensures before outcomes told);
+    }
+
 pub returns : goal.returns
 returns g c =
     let i = c.loop-own.invariant in
