@@ -60,6 +60,7 @@ pub(crate) fn put_text(out: &mut Vec<u8>, text: &str) -> Result<(), NoMemory>
 }
 
 /// Appends the number of the task's line, or of the first one of which the task may be.
+#[tactic(auto, unfolding(crate::specs::Messages::line_words))]
 fn put_lines(out: &mut Vec<u8>, lines: &[u64]) -> Result<(), NoMemory>
     ensures { OnOk result (out.new.items ≡ out.old.items ++ line_words lines.now) }
 {
@@ -79,6 +80,7 @@ fn put_line(out: &mut Vec<u8>, line: u64, others: &[u64]) -> Result<(), NoMemory
     put_text(out, ": ")
 }
 
+#[tactic(auto, unfolding(crate::specs::Messages::others_words))]
 fn others_sentence(others: &[u64]) -> &'static str
     ensures { result.now ≡ others_words others.now }
 {
