@@ -20,8 +20,8 @@ loop-place-init g c = record {
   ready = refl;
 }
 
-pub do_task-outcome-requires-clause-ready : goal.do_task-outcome-requires-clause-ready
-do_task-outcome-requires-clause-ready g c = c.loop-place.invariant.ready ∙ c.requires.means.ready
+pub do_task-requires-clause-ready : goal.do_task-requires-clause-ready
+do_task-requires-clause-ready g c = c.loop-place.invariant.ready ∙ c.requires.means.ready
 
 pub returns-in_err-outcome-clause-came : goal.returns-in_err-outcome-clause-came
 returns-in_err-outcome-clause-came g c = λ views shows.
