@@ -16,7 +16,7 @@ bucket_words (Some NoFolder) = line (codes "BUCKET: the name, or a part of it, i
 bucket_words (Some Forbidden) = line (codes "BUCKET: the right to list, to read or to write there is lacking, or its disk may only be read.")
 bucket_words (Some Full) = line (codes "BUCKET: there is no room left on its disk.")
 bucket_words (Some NoMemory) = line (codes "BUCKET: the system refused a call there.")
-bucket_words (Some Other) = line (codes "BUCKET: the system refused a call there.")
+bucket_words (Some Other) = line (codes "BUCKET: the system refused a call there. A file may stand under its name.")
 
 abbrev pub shelf_words : Option Trouble → List ℕ
 shelf_words None = []

@@ -19,9 +19,8 @@ const FIRST_MS: u64 = 2_000;
 /// And so many between one line and the next.
 const PAUSE_MS: u64 = 200;
 
-/// It covers any line.
-const BLANKS: &str =
-    "                                                                                \r";
+/// It covers any line: a script has less than 14 million phases, and a journal about a million operations and a gibibyte.
+const BLANKS: &str = "                                                                \r";
 
 /// Counts what a run does, and shows it on standard error from time to time.
 #[derive(Drop)]

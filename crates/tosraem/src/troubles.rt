@@ -41,7 +41,10 @@ pub(crate) fn bucket_line(trouble: Option<Trouble>) -> &'static str
             "BUCKET: the right to list, to read or to write there is lacking, or its disk may only be read.\n"
         }
         Some(Trouble::Full) => "BUCKET: there is no room left on its disk.\n",
-        Some(Trouble::NoMemory | Trouble::Other) => "BUCKET: the system refused a call there.\n",
+        Some(Trouble::NoMemory) => "BUCKET: the system refused a call there.\n",
+        Some(Trouble::Other) => {
+            "BUCKET: the system refused a call there. A file may stand under its name.\n"
+        }
     }
 }
 
